@@ -9,7 +9,7 @@ use Rattle.std.specs.declared.option.Option.{Option}
 use Rattle.std.specs.declared.option.Option.the-variants.{Some, None}
 use Rattle.std.specs.Options.{mapped}
 use Rattle.std.proofs.shelf.Tests.{both-ways, cases-eq, cases-order}
-use Rattle.format.specs.Search.{from, upto, first, _else_, when}
+use Rattle.format.specs.Search.{from, upto, first, any, all, _else_, when}
 
 abbrev pub In : {A : Type 0} → A → List A → Type 0
 In x xs = List·Memᴰ x xs
@@ -54,6 +54,66 @@ module _ {A : Type 0} where
       go true b ih = absurd (both-ways true b refl)
       go false b ih = ih
 
+  pub any-cons : (t : A → Bool) (x : A) (xs : List A) → any t (x ∷ xs) ≡ cond (t x) true (any t xs)
+  unfolding any
+  any-cons t x xs = refl
+
+  any-nil : (t : A → Bool) → any t [] ≡ false
+  unfolding any
+  any-nil t = refl
+
+  pub any-some : (t : A → Bool) (xs : List A) → any t xs ≡ true → (x : A) × In x xs × (t x ≡ true)
+  any-some t [] e = absurd (both-ways false refl (sym (any-nil t) ∙ e))
+  any-some t (y ∷ ys) e = go (t y) refl (sym (any-cons t y ys) ∙ e) (any-some t ys)
+    where
+      go : (b : Bool) → t y ≡ b → cond b true (any t ys) ≡ true →
+          (any t ys ≡ true → (x : A) × In x ys × (t x ≡ true)) → (x : A) × In x (y ∷ ys) × (t x ≡ true)
+      go true b e′ ih = (y, List·Memᴰ·head refl, b)
+      go false b e′ ih = let r = ih e′ in (r .0, List·Memᴰ·tail (r .1), r .2)
+
+  pub some-any : (t : A → Bool) (xs : List A) (x : A) → In x xs → t x ≡ true → any t xs ≡ true
+  some-any t [] x m h = absurd (List·Memᴰ·not-nil m)
+  some-any t (y ∷ ys) x m h = any-cons t y ys ∙ go (t y) refl (List·Memᴰ·cases-cons m) (λ n. some-any t ys x n h)
+    where
+      go : (b : Bool) → t y ≡ b → (x ≡ y) ⊎ In x ys → (In x ys → any t ys ≡ true) → cond b true (any t ys) ≡ true
+      go true b o ih = refl
+      go false b (inl p) ih = absurd (both-ways (t y) b (sym (ap t p) ∙ h))
+      go false b (inr n) ih = ih n
+
+  pub any-false : (t : A → Bool) (xs : List A) → any t xs ≡ false → (x : A) → In x xs → t x ≡ false
+  any-false t xs e x m = go (t x) refl
+    where
+      go : (b : Bool) → t x ≡ b → b ≡ false
+      go true b = absurd (both-ways (any t xs) e (some-any t xs x m b))
+      go false b = refl
+
+  pub all-cons : (t : A → Bool) (x : A) (xs : List A) → all t (x ∷ xs) ≡ cond (t x) (all t xs) false
+  unfolding all
+  all-cons t x xs = refl
+
+  all-nil : (t : A → Bool) → all t [] ≡ true
+  unfolding all
+  all-nil t = refl
+
+  pub all-true : (t : A → Bool) (xs : List A) → all t xs ≡ true → (x : A) → In x xs → t x ≡ true
+  all-true t [] e x m = absurd (List·Memᴰ·not-nil m)
+  all-true t (y ∷ ys) e x m = go (t y) refl (sym (all-cons t y ys) ∙ e) (all-true t ys) (List·Memᴰ·cases-cons m)
+    where
+      go : (b : Bool) → t y ≡ b → cond b (all t ys) false ≡ true →
+          (all t ys ≡ true → (z : A) → In z ys → t z ≡ true) → (x ≡ y) ⊎ In x ys → t x ≡ true
+      go true b e′ ih (inl p) = ap t p ∙ b
+      go true b e′ ih (inr n) = ih e′ x n
+      go false b e′ ih o = absurd (both-ways false refl e′)
+
+  pub true-all : (t : A → Bool) (xs : List A) → ((x : A) → In x xs → t x ≡ true) → all t xs ≡ true
+  true-all t [] h = all-nil t
+  true-all t (y ∷ ys) h =
+      all-cons t y ys ∙ go (t y) (h y (List·Memᴰ·head refl)) (true-all t ys (λ x m. h x (List·Memᴰ·tail m)))
+    where
+      go : (b : Bool) → b ≡ true → all t ys ≡ true → cond b (all t ys) false ≡ true
+      go true b ih = ih
+      go false b ih = absurd (both-ways false refl b)
+
   -- the first of several answers
   pub else-none : (a b : Option A) → (a else b) ≡ None → (a ≡ None) × (b ≡ None)
   else-none None b e = (refl, e)
@@ -62,6 +122,14 @@ module _ {A : Type 0} where
   pub none-else : (a b : Option A) → a ≡ None → b ≡ None → (a else b) ≡ None
   none-else None b e h = h
   none-else (Some x) b e h = absurd (some-none e)
+
+  pub else-skip : (a b : Option A) → a ≡ None → (a else b) ≡ b
+  else-skip None b e = refl
+  else-skip (Some x) b e = absurd (some-none e)
+
+  pub else-some : (a b : Option A) (x : A) → (a else b) ≡ Some x → (a ≡ Some x) ⊎ ((a ≡ None) × (b ≡ Some x))
+  else-some None b x e = inr (refl, e)
+  else-some (Some y) b x e = inl e
 
   pub when-none : (b : Bool) (x : A) → when b x ≡ None → b ≡ false
   when-none true x e = absurd (some-none e)

@@ -1,4 +1,4 @@
--- The first thing of a list that passes a test, and the first of several answers. Assumes nothing.
+-- Searches of a list by a test, and the first of several answers. Assumes nothing.
 use mathlib.Core.Bool.{Bool, true, false, cond}
 use mathlib.Core.List.{List, [], _∷_}
 use Prim.Native.Nat.{ℕ, zero, suc}
@@ -18,6 +18,15 @@ upto n = from 0 n
 unfoldable pub first : {A : Type 0} → (A → Bool) → List A → Option A
 first t [] = None
 first t (x ∷ xs) = cond (t x) (Some x) (first t xs)
+
+-- some of the list passes the test; all of it does
+unfoldable pub any : {A : Type 0} → (A → Bool) → List A → Bool
+any t [] = false
+any t (x ∷ xs) = cond (t x) true (any t xs)
+
+unfoldable pub all : {A : Type 0} → (A → Bool) → List A → Bool
+all t [] = true
+all t (x ∷ xs) = cond (t x) (all t xs) false
 
 -- the first answer, else the second
 infixr 20 _else_
