@@ -1,0 +1,3 @@
+//! The bytecode: the opcode tables, instructions taken apart, and the rules of a file's code.
+
+pub mod instruction;
