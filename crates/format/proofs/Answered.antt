@@ -6,7 +6,7 @@ use mathlib.Core.List.{List}
 use Prim.Native.Nat.{ℕ, zero, suc, _+_, _*_, _<_, _≤_}
 use native.Mathlib.Numerals.{add-one}
 use native.Mathlib.Omega.{arith}
-use lib.Dec.{ltb}
+use lib.Dec.{ltb, leb}
 use lib.ListN.{length}
 use Rattle.std.specs.Options.{mapped, isSome}
 use Rattle.std.specs.declared.option.Option.{Option}
@@ -15,7 +15,8 @@ use Rattle.std.proofs.shelf.Tests.{cases-lt}
 use Rattle.std.proofs.shelf.Ways.{tells}
 use Rattle.format.specs.Layout.{methods, constants, messages, constant-address, tables-end, code-due, code-size, code-address, debug-due, debug-address, name-size, message-due, message-size, program-address, program-size, code-more, debug-none}
 use Rattle.format.specs.Sound.{Sound, Method}
-use Rattle.format.specs.Parts.{Accepted, Piece, within, among, program-name, method-name, method-code, constant, message}
+use Rattle.format.specs.Parts.{Accepted, Piece, piece, within, among, program-name, method-name, method-code, constant, message}
+use Rattle.format.proofs.Finds.{some-none}
 use Rattle.format.proofs.Sounds.{sound}
 
 -- the code of a method ends where that of a later one begins, or before
@@ -70,3 +71,18 @@ constant-there f i h = part-there f i (constants f) (constant-address f i) 2 (λ
 
 pub message-there : (f : List ℕ) (i : ℕ) → Accepted f → isSome (message f i) ≡ ltb i (messages f)
 message-there f i h = part-there f i (messages f) (message-due f i + 2) (message-size f i) (λ l. let w = sound f h .message i l .whole in omega arith)
+
+-- what an answer holds, once it is there
+pub found-within : (f : List ℕ) (place size : ℕ) (p : Piece) → Some p ≡ within f place size → p ≡ piece f place size
+found-within f place size p e = go (leb (place + size) (length f)) e
+  where
+    go : (b : Bool) → Some p ≡ cond b (Some (piece f place size)) None → p ≡ piece f place size
+    go true e = cc
+    go false e = absurd (some-none e)
+
+pub found-among : {A : Type 0} (i count : ℕ) (o : Option A) (x : A) → Some x ≡ among i count o → Some x ≡ o
+found-among i count o x e = go (ltb i count) e
+  where
+    go : (b : Bool) → Some x ≡ cond b o None → Some x ≡ o
+    go true e = e
+    go false e = absurd (some-none e)

@@ -10,17 +10,12 @@ ghost use Rattle.format.specs.Layout.{methods, constants, messages};
 ghost use Rattle.format.specs.Rules.{layout-refusal};
 ghost use Rattle.format.specs.Sound.{Sound};
 ghost use Rattle.format.specs.Parts.{Accepted, seen, program-name, method-name, method-code, method-variables, constant, message};
-use crate::bytes::be16_at;
-use crate::bytes::be32_at;
-use crate::bytes::byte_at;
 use crate::layout::constant_count;
-use crate::layout::debug_head;
 use crate::layout::message_count;
-use crate::layout::message_due;
 use crate::layout::method_count;
 use crate::layout::method_entry;
+use crate::part;
 use crate::part::Part;
-use crate::part::part_within;
 use crate::rules::laid_out;
 use refusals::Refusal;
 
@@ -74,8 +69,7 @@ impl<'a> Reader<'a> {
         ensures is { λ r. ⌜ mapped seen r ≡ program-name (now (now (self .entry) .bytes)) ⌝ }
         ensures there { λ r. ⌜ (Accepted (now (now (self .entry) .bytes)) → isSome r ≡ true) ⌝ }
     {
-        let address = be32_at(self.bytes, 6) as usize;
-        part_within(self.bytes, address, byte_at(self.bytes, 5) as usize)
+        part::program_name(self.bytes)
     }
 
     /// The name of method `index`.
@@ -83,12 +77,7 @@ impl<'a> Reader<'a> {
         ensures is { λ r. ⌜ mapped seen r ≡ method-name (now (now (self .entry) .bytes)) index ⌝ }
         ensures there { λ r. ⌜ (Accepted (now (now (self .entry) .bytes)) → isSome r ≡ ltb index (methods (now (now (self .entry) .bytes)))) ⌝ }
     {
-        if index >= self.methods() as usize {
-            return None;
-        }
-        let block = method_entry(self.bytes, index).debug as usize;
-        let size = debug_head(self.bytes, index).name_size;
-        part_within(self.bytes, block + 3, size as usize)
+        part::method_name(self.bytes, index)
     }
 
     /// The code of method `index`.
@@ -96,12 +85,7 @@ impl<'a> Reader<'a> {
         ensures is { λ r. ⌜ mapped seen r ≡ method-code (now (now (self .entry) .bytes)) index ⌝ }
         ensures there { λ r. ⌜ (Accepted (now (now (self .entry) .bytes)) → isSome r ≡ ltb index (methods (now (now (self .entry) .bytes)))) ⌝ }
     {
-        if index >= self.methods() as usize {
-            return None;
-        }
-        let code = method_entry(self.bytes, index).code as usize;
-        let size = debug_head(self.bytes, index).code_size;
-        part_within(self.bytes, code, size as usize)
+        part::method_code(self.bytes, index)
     }
 
     /// How many variables method `index` has.
@@ -123,11 +107,7 @@ impl<'a> Reader<'a> {
         ensures is { λ r. ⌜ mapped seen r ≡ constant (now (now (self .entry) .bytes)) index ⌝ }
         ensures there { λ r. ⌜ (Accepted (now (now (self .entry) .bytes)) → isSome r ≡ ltb index (constants (now (now (self .entry) .bytes)))) ⌝ }
     {
-        if index >= self.constants() as usize {
-            return None;
-        }
-        let address = 13 + 10 * self.methods() as usize + 2 * index;
-        part_within(self.bytes, address, 2)
+        part::constant(self.bytes, index)
     }
 
     /// Message `index`, without its two size bytes.
@@ -135,10 +115,6 @@ impl<'a> Reader<'a> {
         ensures is { λ r. ⌜ mapped seen r ≡ message (now (now (self .entry) .bytes)) index ⌝ }
         ensures there { λ r. ⌜ (Accepted (now (now (self .entry) .bytes)) → isSome r ≡ ltb index (messages (now (now (self .entry) .bytes)))) ⌝ }
     {
-        if index >= self.messages() as usize {
-            return None;
-        }
-        let at = message_due(self.bytes, index);
-        part_within(self.bytes, at + 2, be16_at(self.bytes, at) as usize)
+        part::message(self.bytes, index)
     }
 }

@@ -1,11 +1,11 @@
-use borrow.Author.Needs.{needs}
 use Rattle.format.specs.Parts.{seen, message}
 use Rattle.format.proofs.Answered.{there, message-there}
 use Rattle.format.proofs.reader.Reader.message.Needs as need
 
 pub returns : need.returns
 returns c =
+    let f = c .args .self .now .bytes .now in
     record {
-      is = search needs;
-      there = λ h. there seen (c .part-within .result) (message (c .args .self .now .bytes .now) (c .args .index)) _ (search needs) (message-there (c .args .self .now .bytes .now) (c .args .index) h);
+      is = c .message .ensures;
+      there = λ h. there seen (c .message .result) (message f (c .args .index)) _ (c .message .ensures) (message-there f (c .args .index) h);
     }

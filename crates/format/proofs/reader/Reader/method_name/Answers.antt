@@ -1,11 +1,11 @@
-use borrow.Author.Needs.{needs}
 use Rattle.format.specs.Parts.{seen, method-name}
 use Rattle.format.proofs.Answered.{there, method-name-there}
 use Rattle.format.proofs.reader.Reader.method_name.Needs as need
 
 pub returns : need.returns
 returns c =
+    let f = c .args .self .now .bytes .now in
     record {
-      is = search needs;
-      there = λ h. there seen (c .part-within .result) (method-name (c .args .self .now .bytes .now) (c .args .index)) _ (search needs) (method-name-there (c .args .self .now .bytes .now) (c .args .index) h);
+      is = c .method-name .ensures;
+      there = λ h. there seen (c .method-name .result) (method-name f (c .args .index)) _ (c .method-name .ensures) (method-name-there f (c .args .index) h);
     }
