@@ -87,6 +87,13 @@ module _ {A : Type 0} where
       go true b = absurd (both-ways (any t xs) e (some-any t xs x m b))
       go false b = refl
 
+  pub false-any : (t : A → Bool) (xs : List A) → ((x : A) → In x xs → t x ≡ false) → any t xs ≡ false
+  false-any t xs h = go (any t xs) refl
+    where
+      go : (b : Bool) → any t xs ≡ b → b ≡ false
+      go true e = let r = any-some t xs e in absurd (both-ways (t (r .0)) (h (r .0) (r .1)) (r .2))
+      go false e = refl
+
   pub all-cons : (t : A → Bool) (x : A) (xs : List A) → all t (x ∷ xs) ≡ cond (t x) (all t xs) false
   unfolding all
   all-cons t x xs = refl

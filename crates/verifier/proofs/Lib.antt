@@ -1,1 +1,4 @@
-pub mod Tries
+pub mod Places
+pub mod Folds
+pub mod Entries
+pub mod Rule
