@@ -2,3 +2,5 @@ pub mod Places
 pub mod Folds
 pub mod Entries
 pub mod Rule
+pub mod Ways
+pub mod Closed
