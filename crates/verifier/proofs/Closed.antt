@@ -7,15 +7,14 @@ use Prim.Native.Nat.{ℕ, _≤_, _<_}
 use native.Mathlib.Omega.{arith}
 use Rattle.std.proofs.shelf.Lists.{ext-getD}
 use Rattle.std.proofs.shelf.Tests.{both-ways}
-use Rattle.format.specs.Search.{any, upto}
 use Rattle.format.specs.Layout.{methods}
 use Rattle.format.specs.Parts.{Accepted}
-use Rattle.format.proofs.Finds.{In, any-some, any-false, in-upto, upto-in}
-use Rattle.bytecode.specs.Places.{places, is-place, takes, successors}
+use Rattle.format.proofs.Finds.{In}
+use Rattle.bytecode.specs.Places.{places, takes, successors}
 use Rattle.verifier.specs.Numbering.{blank, number, result, method-breaks}
 use Rattle.verifier.specs.Verdicts.{Counts, Keeps-rule}
 use Rattle.verifier.specs.Worklist.{Counted, Closed, Complete}
-use Rattle.verifier.proofs.Places.{is-place-in, in-is-place}
+use Rattle.verifier.proofs.Places.{place-cases}
 use Rattle.verifier.proofs.Rule.{parts-balanced, method-rule, rule-method}
 use Rattle.verifier.proofs.Ways.{counts-numbered}
 
@@ -77,14 +76,8 @@ module _ (f : List ℕ) (g : Accepted f) (s t : List ℕ) (c : Complete f s) (d 
   complete-breaks k l = closed-breaks f g k l s t (c .closed k l) (d .closed k l)
 
   pub complete-same : ((k : ℕ) → k < methods f → method-breaks f t k ≡ false) → s ≡ t
-  complete-same h = ext-getD blank s t (c .long ∙ sym (d .long)) (λ p _. go p (any (λ (k : ℕ). is-place f k p) (upto (methods f))) refl)
+  complete-same h = ext-getD blank s t (c .long ∙ sym (d .long)) (λ p _. go p (place-cases f p))
     where
-      go : (p : ℕ) (b : Bool) → any (λ (k : ℕ). is-place f k p) (upto (methods f)) ≡ b → number s p ≡ number t p
-      go p true e =
-          let r = any-some (λ (k : ℕ). is-place f k p) (upto (methods f)) e in
-          let l = upto-in (methods f) (r .0) (r .1) in
-          closed-same f g (r .0) l s t (c .closed (r .0) l) (d .closed (r .0) l) (number t) (method-rule f g t (r .0) l (h (r .0) l)) p (is-place-in f (r .0) p (r .2))
-      go p false e = c .others p none ∙ sym (d .others p none)
-        where
-          none : (k : ℕ) → k < methods f → In p (places f k) → ⊥
-          none k l m = both-ways (is-place f k p) (any-false (λ (k : ℕ). is-place f k p) (upto (methods f)) e k (in-upto (methods f) k l)) (in-is-place f k p m)
+      go : (p : ℕ) → ((k : ℕ) × (k < methods f) × In p (places f k)) ⊎ ((k : ℕ) → k < methods f → In p (places f k) → ⊥) → number s p ≡ number t p
+      go p (inl (k, l, m)) = closed-same f g k l s t (c .closed k l) (d .closed k l) (number t) (method-rule f g t k l (h k l)) p m
+      go p (inr none) = c .others p none ∙ sym (d .others p none)

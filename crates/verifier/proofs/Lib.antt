@@ -4,3 +4,5 @@ pub mod Entries
 pub mod Rule
 pub mod Ways
 pub mod Closed
+pub mod Settles
+pub mod Peaks

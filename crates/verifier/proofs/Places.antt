@@ -8,11 +8,11 @@ use native.Mathlib.Numerals.{add-one}
 use native.Mathlib.Omega.{arith}
 use lib.Dec.{eqb, ltb}
 use lib.ListN.{length}
-use Rattle.std.proofs.shelf.Tests.{eqb-true, eq-eqb, cases-eq, cases-order, ltb-true, lt-ltb}
-use Rattle.format.specs.Search.{upto}
+use Rattle.std.proofs.shelf.Tests.{both-ways, eqb-true, eq-eqb, cases-eq, cases-order, ltb-true, lt-ltb}
+use Rattle.format.specs.Search.{any, upto}
 use Rattle.format.specs.Layout.{methods, tables-end, code-address, code-size, code-due, code-none, code-more}
 use Rattle.format.specs.Parts.{Accepted}
-use Rattle.format.proofs.Finds.{In, any-some, some-any, in-upto, upto-in}
+use Rattle.format.proofs.Finds.{In, any-some, some-any, any-false, in-upto, upto-in}
 use Rattle.format.proofs.Sounds.{sound}
 use Rattle.format.proofs.Answered.{code-before, code-fits}
 use Rattle.bytecode.specs.Places.{Point, points, points-of, points-from, places, decoded, whole, next, code-end, is-place}
@@ -104,6 +104,14 @@ points-in f x m = let r = from-in-points f (upto (methods f)) x m in (upto-in (m
 
 pub in-points : (f : List ℕ) (k p : ℕ) → k < methods f → In p (places f k) → In (point k p) (points f)
 in-points f k p h i = in-points-from f (upto (methods f)) k p (in-upto (methods f) k h) i
+
+-- an address is a place of some method or of none
+pub place-cases : (f : List ℕ) (p : ℕ) → ((k : ℕ) × (k < methods f) × In p (places f k)) ⊎ ((k : ℕ) → k < methods f → In p (places f k) → ⊥)
+place-cases f p = go (any (λ (k : ℕ). is-place f k p) (upto (methods f))) refl
+  where
+    go : (b : Bool) → any (λ (k : ℕ). is-place f k p) (upto (methods f)) ≡ b → ((k : ℕ) × (k < methods f) × In p (places f k)) ⊎ ((k : ℕ) → k < methods f → In p (places f k) → ⊥)
+    go true e = let r = any-some (λ (k : ℕ). is-place f k p) (upto (methods f)) e in inl (r .0, upto-in (methods f) (r .0) (r .1), is-place-in f (r .0) p (r .2))
+    go false e = inr (λ k l m. both-ways (is-place f k p) (any-false (λ (k : ℕ). is-place f k p) (upto (methods f)) e k (in-upto (methods f) k l)) (in-is-place f k p m))
 
 -- where the places of an accepted file lie
 module _ (f : List ℕ) (g : Accepted f) where

@@ -17,7 +17,7 @@ use Rattle.refusals.specs.declared.Refusal.{Refusal}
 use Rattle.format.specs.Search.{first, any, all, upto, _else_, when}
 use Rattle.format.specs.Layout.{methods, entry, code-address}
 use Rattle.format.specs.Rules.{refused, layout-refusal}
-use Rattle.bytecode.specs.Places.{Point, points, places, is-place, takes, leaves, successors}
+use Rattle.bytecode.specs.Places.{Point, points, points-from, places, is-place, takes, leaves, successors}
 use Rattle.bytecode.specs.Rules.{code-refusal}
 
 -- the entry of a place without a number
@@ -113,16 +113,23 @@ check-refusal f n m =
     code-refusal f else
     refused NoNumbering (mapped (code-address f) (first (unnumberable f) (upto (methods f))))
 
--- the good answer: how many places are numbered, and the largest peak
-abbrev pub tally : List ℕ → ℕ × ℕ
-tally f = (
-  countBy (λ (x : Point). numbered (number (numbering f) (x .place))) (points f),
-  folded (λ m k. max m (peak f (numbering f) k)) 0 (upto (methods f)),
-)
+-- of the methods below n in the sheet s: how many places are numbered, and the largest peak
+abbrev pub count-to : List ℕ → List ℕ → ℕ → ℕ
+count-to f s n = countBy (λ (x : Point). numbered (number s (x .place))) (points-from f (upto n))
 
--- the sheet s with each method's peak at the method's entry
+abbrev pub largest-to : List ℕ → List ℕ → ℕ → ℕ
+largest-to f s n = folded (λ m k. max m (peak f s k)) 0 (upto n)
+
+-- the good answer
+abbrev pub tally : List ℕ → ℕ × ℕ
+tally f = (count-to f (numbering f) (methods f), largest-to f (numbering f) (methods f))
+
+-- the sheet s with the peaks of the methods below n at their entries
+abbrev pub peaks-to : List ℕ → List ℕ → ℕ → List ℕ
+peaks-to f s n = folded (λ t k. set t (entry k) (peak f s k)) s (upto n)
+
 abbrev pub with-peaks : List ℕ → List ℕ → List ℕ
-with-peaks f s = folded (λ t k. set t (entry k) (peak f s k)) s (upto (methods f))
+with-peaks f s = peaks-to f s (methods f)
 
 -- the sheet that check leaves of s when it answers o: what belongs to the file is numbered, or blank where the code is refused;
 -- an earlier refusal leaves all as it was
