@@ -6,3 +6,5 @@ pub mod Ways
 pub mod Closed
 pub mod Settles
 pub mod Peaks
+pub mod Refusals
+pub mod Numbers
