@@ -180,7 +180,7 @@ pub upto-in : (n k : ℕ) → In k (upto n) → k < n
 upto-in n k m = let h = from-in 0 n k m in omega arith
 
 -- the first number that a test finds
-first-before : (t : ℕ → Bool) (i n k : ℕ) → first t (from i n) ≡ Some k → (j : ℕ) → i ≤ j → j < k → t j ≡ false
+pub first-before : (t : ℕ → Bool) (i n k : ℕ) → first t (from i n) ≡ Some k → (j : ℕ) → i ≤ j → j < k → t j ≡ false
 unfolding from
 first-before t i zero k e j a b = absurd (some-none (sym e ∙ first-nil t))
 first-before t i (suc n) k e j a b = go (t i) refl (sym (first-cons t i (from (suc i) n)) ∙ e) (first-before t (suc i) n k)

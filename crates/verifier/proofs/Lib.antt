@@ -8,3 +8,5 @@ pub mod Settles
 pub mod Peaks
 pub mod Refusals
 pub mod Numbers
+pub mod Sheets
+pub mod Exact
