@@ -10,3 +10,4 @@ pub mod Refusals
 pub mod Numbers
 pub mod Sheets
 pub mod Exact
+pub mod Turns

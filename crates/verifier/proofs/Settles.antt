@@ -1,16 +1,16 @@
 -- Nothing is left to number in the numbering: after as many passes as there are places another gives no number. Assumes nothing.
 use mathlib.Core.Path.{_≡_, refl, sym, ap, subst, _∙_}
 use mathlib.Core.Logic.{_⊎_, inl, inr}
-use mathlib.Core.Bool.{Bool, true, false, cond, _&&_}
+use mathlib.Core.Bool.{Bool, true, false, _&&_}
 use mathlib.Core.List.{List}
-use Prim.Native.Nat.{ℕ, zero, suc, _+_, _≤_, _<_}
+use Prim.Native.Nat.{ℕ, _≤_, _<_}
 use native.Mathlib.Omega.{arith}
 use lib.Dec.{eqb}
 use lib.ListN.{length, set, length-set}
 use Rattle.std.specs.Iters.{folded}
 use Rattle.std.specs.shelf.Lists.{countBy}
 use Rattle.std.proofs.shelf.Sums.{countBy-le-length}
-use Rattle.std.proofs.shelf.Tests.{both-ways, eqb-true, eq-eqb, ne-eqb, cases-eq, leb-true, le-leb, and-parts, and-from, cond-true, cond-false, cond-both}
+use Rattle.std.proofs.shelf.Tests.{both-ways, eqb-true, eq-eqb, leb-true, le-leb, and-parts, and-from, cond-true, cond-false, cond-both}
 use Rattle.format.specs.Search.{upto}
 use Rattle.format.specs.Layout.{methods, code-address}
 use Rattle.format.specs.Parts.{Accepted}
@@ -19,8 +19,8 @@ use Rattle.bytecode.specs.Places.{Point, points, places, is-place, successors}
 use Rattle.verifier.specs.Numbering.{blank, number, numbered, result, balanced, give, give-on, pass, blanks, starts, numbering}
 use Rattle.verifier.specs.Verdicts.{Counts, none-at-start, result-onward}
 use Rattle.verifier.specs.Worklist.{Counted, Closed, Complete}
-use Rattle.verifier.proofs.Folds.{folded-ind, folded-upto-ind, folded-gets, folded-or, folded-settles, countBy-lt}
-use Rattle.verifier.proofs.Entries.{number-set-same, number-set-other, number-set-cases, blanks-blank, blanks-length}
+use Rattle.verifier.proofs.Folds.{folded-ind, folded-upto-ind, folded-gets, folded-or, folded-settles}
+use Rattle.verifier.proofs.Entries.{number-set-same, number-set-cases, fewer-blank, blanks-blank, blanks-length}
 use Rattle.verifier.proofs.Places.{point, points-in, in-points, is-place-in, in-is-place, start-is-place, place-bounds, places-apart}
 use Rattle.verifier.proofs.Rule.{balanced-parts}
 
@@ -67,20 +67,7 @@ module _ (f : List ℕ) (g : Accepted f) where
 
   -- a write at a blank place leaves fewer blank
   fewer : (t : List ℕ) (k q d : ℕ) → length t ≡ length f → k < methods f → In q (places f k) → number t q ≡ blank → d ≤ 255 → blank-count f (set t q d) < blank-count f t
-  fewer t k q d h l m e s = countBy-lt (blank-at t) (blank-at (set t q d)) was (points f) (point k q) (in-points f k q l m) (eq-eqb (number t q) blank e) (ne-eqb (number (set t q d) q) blank now)
-    where
-      inside : q < length t
-      inside = let b = place-bounds f g k q l m in omega arith
-
-      now : number (set t q d) q ≡ blank → ⊥
-      now z = let v = number-set-same t q d inside in omega arith
-
-      was : (x : Point) → blank-at (set t q d) x ≡ true → blank-at t x ≡ true
-      was x y = go (number-set-cases t q d (x .place))
-        where
-          go : ((x .place ≡ q) × (number (set t q d) (x .place) ≡ d)) ⊎ (number (set t q d) (x .place) ≡ number t (x .place)) → blank-at t x ≡ true
-          go (inl r) = eq-eqb (number t (x .place)) blank (ap (number t) (r .0) ∙ e)
-          go (inr r) = rw r at y
+  fewer t k q d h l m e s = fewer-blank (λ (x : Point). x .place) (points f) (point k q) t d (in-points f k q l m) (let b = place-bounds f g k q l m in omega arith) e s
 
   -- a gift is not needed, or leaves fewer blank
   abbrev waits : ℕ → List ℕ → ℕ → Bool
