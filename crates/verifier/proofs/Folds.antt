@@ -13,8 +13,8 @@ use Rattle.std.specs.shelf.Lists.{countBy}
 use Rattle.std.proofs.shelf.Sums.{folded-push, sumBy-cons}
 use Rattle.std.proofs.shelf.Tests.{cond-true, cond-false}
 use Rattle.std.proofs.shelf.Ways.{tells}
-use Rattle.format.specs.Search.{from, upto}
-use Rattle.format.proofs.Finds.{In, upto-in}
+use Rattle.format.specs.Search.{from, upto, first}
+use Rattle.format.proofs.Finds.{In, upto-in, first-nil, first-cons}
 
 -- what holds at first, and lasts under each turn, holds of the fold
 pub folded-ind : {A B : Type 0} (P : B → Type 0) (t : B → A → B) (b : B) (xs : List A) → P b → ((c : B) (x : A) → In x xs → P c → P (t c x)) → P (folded t b xs)
@@ -123,3 +123,13 @@ module _ {A : Type 0} (a b : A → Bool) (h : (x : A) → b x ≡ true → a x �
           let r = ih j in
           let s = one-le (a z) (b z) (h z) in
           omega arith
+
+-- two tests that agree on a list find the same
+pub first-same : {A : Type 0} (t u : A → Bool) (xs : List A) → ((x : A) → In x xs → t x ≡ u x) → first t xs ≡ first u xs
+first-same t u [] h = first-nil t ∙ sym (first-nil u)
+first-same t u (x ∷ xs) h =
+    let a = first-cons t x xs in
+    let b = first-cons u x xs in
+    let c = h x (List·Memᴰ·head refl) in
+    let d = first-same t u xs (λ y i. h y (List·Memᴰ·tail i)) in
+    cc

@@ -11,3 +11,4 @@ pub mod Numbers
 pub mod Sheets
 pub mod Exact
 pub mod Turns
+pub mod Methods
