@@ -87,6 +87,13 @@ module _ {A : Type 0} where
       go true b = absurd (both-ways (any t xs) e (some-any t xs x m b))
       go false b = refl
 
+  pub false-any : (t : A → Bool) (xs : List A) → ((x : A) → In x xs → t x ≡ false) → any t xs ≡ false
+  false-any t xs h = go (any t xs) refl
+    where
+      go : (b : Bool) → any t xs ≡ b → b ≡ false
+      go true e = let r = any-some t xs e in absurd (both-ways (t (r .0)) (h (r .0) (r .1)) (r .2))
+      go false e = refl
+
   pub all-cons : (t : A → Bool) (x : A) (xs : List A) → all t (x ∷ xs) ≡ cond (t x) (all t xs) false
   unfolding all
   all-cons t x xs = refl
@@ -173,7 +180,7 @@ pub upto-in : (n k : ℕ) → In k (upto n) → k < n
 upto-in n k m = let h = from-in 0 n k m in omega arith
 
 -- the first number that a test finds
-first-before : (t : ℕ → Bool) (i n k : ℕ) → first t (from i n) ≡ Some k → (j : ℕ) → i ≤ j → j < k → t j ≡ false
+pub first-before : (t : ℕ → Bool) (i n k : ℕ) → first t (from i n) ≡ Some k → (j : ℕ) → i ≤ j → j < k → t j ≡ false
 unfolding from
 first-before t i zero k e j a b = absurd (some-none (sym e ∙ first-nil t))
 first-before t i (suc n) k e j a b = go (t i) refl (sym (first-cons t i (from (suc i) n)) ∙ e) (first-before t (suc i) n k)

@@ -1,0 +1,14 @@
+pub mod Places
+pub mod Folds
+pub mod Entries
+pub mod Rule
+pub mod Ways
+pub mod Closed
+pub mod Settles
+pub mod Peaks
+pub mod Refusals
+pub mod Numbers
+pub mod Sheets
+pub mod Exact
+pub mod Turns
+pub mod Methods

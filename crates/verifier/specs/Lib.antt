@@ -1,0 +1,3 @@
+pub mod Numbering
+pub mod Verdicts
+pub mod Worklist
