@@ -1,4 +1,5 @@
 pub mod Places
+pub mod CodeRules
 pub mod Folds
 pub mod Entries
 pub mod Rule
