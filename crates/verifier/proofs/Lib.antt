@@ -13,3 +13,4 @@ pub mod Sheets
 pub mod Exact
 pub mod Turns
 pub mod Methods
+pub mod Tally
