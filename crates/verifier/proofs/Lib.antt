@@ -14,3 +14,4 @@ pub mod Exact
 pub mod Turns
 pub mod Methods
 pub mod Tally
+pub mod Verified
