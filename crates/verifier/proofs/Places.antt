@@ -185,6 +185,10 @@ module _ (f : List ℕ) (g : Accepted f) where
       after-tables zero = let a = code-none f in omega arith
       after-tables (suc k) = let a = code-none f in let b = code-before f 0 (suc k) (omega arith) in omega arith
 
+  -- so a place is an index into the file, and sixteen bits hold it
+  pub place-inside : (k p : ℕ) → k < methods f → is-place f k p ≡ true → (p < length f) × (p < 65535)
+  place-inside k p h e = let b = place-bounds k p h (is-place-in f k p e) in let s = sound f g .short in omega arith
+
   -- the places of two methods are apart
   pub places-apart : (j k p : ℕ) → j < methods f → k < methods f → In p (places f j) → In p (places f k) → j ≡ k
   places-apart j k p l m a b = go (cases-order j k) (place-in j p l a) (place-in k p m b)
