@@ -6,9 +6,9 @@ use mathlib.Core.List.{List}
 use Prim.Native.Nat.{ℕ, _≤_, _<_}
 use native.Mathlib.Omega.{arith}
 use lib.Dec.{eqb}
-use lib.ListN.{length, set, length-replicate, getD-replicate}
+use lib.ListN.{length, getD, set, length-replicate, getD-replicate}
 use Rattle.std.specs.shelf.Lists.{countBy}
-use Rattle.std.proofs.shelf.Lists.{getD-set-same, getD-set-other, set-past, getD-past}
+use Rattle.std.proofs.shelf.Lists.{getD-set-same, getD-set-other, set-past, getD-past, getD-default}
 use Rattle.std.proofs.shelf.Tests.{cases-eq, cases-lt, eq-eqb, ne-eqb}
 use Rattle.format.proofs.Finds.{In}
 use Rattle.verifier.specs.Numbering.{blank, number, blanks}
@@ -19,6 +19,10 @@ number-set-same s q d h = getD-set-same s q d blank h
 
 pub number-set-other : (s : List ℕ) (q d p : ℕ) → (p ≡ q → ⊥) → number (set s q d) p ≡ number s p
 number-set-other s q d p h = getD-set-other s q p d blank h
+
+-- an entry that is read
+pub number-read : (s : List ℕ) (p e : ℕ) → p < length s → getD s p e ≡ number s p
+number-read s p e l = getD-default s p e blank l
 
 -- after a write of d at q: d there if the sheet reaches so far, else what it said before
 pub number-set-cases : (s : List ℕ) (q d p : ℕ) → ((p ≡ q) × (number (set s q d) p ≡ d)) ⊎ (number (set s q d) p ≡ number s p)

@@ -1,4 +1,5 @@
 pub mod Places
+pub mod CodeRules
 pub mod Folds
 pub mod Entries
 pub mod Rule
@@ -12,3 +13,5 @@ pub mod Sheets
 pub mod Exact
 pub mod Turns
 pub mod Methods
+pub mod Tally
+pub mod Verified

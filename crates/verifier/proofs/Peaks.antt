@@ -1,7 +1,6 @@
 -- The peaks: the largest of a method's numbers, and a sheet with them at the methods' entries. Assumes nothing.
 use mathlib.Core.Path.{_≡_, refl, sym, ap, subst, _∙_}
 use mathlib.Core.Logic.{_⊎_, inl, inr}
-use mathlib.Core.Bool.{Bool, true, false, cond}
 use mathlib.Core.List.{List}
 use Prim.Native.Nat.{ℕ, _+_, _*_, _≤_, _<_, max}
 use native.Mathlib.Omega.{arith}
@@ -13,7 +12,7 @@ use Rattle.format.specs.Parts.{Accepted}
 use Rattle.format.proofs.Finds.{In, in-upto}
 use Rattle.format.proofs.Sounds.{sound}
 use Rattle.bytecode.specs.Places.{places}
-use Rattle.verifier.specs.Numbering.{blank, number, numbered, peak, peaks-to}
+use Rattle.verifier.specs.Numbering.{blank, number, numbered, larger, peak, peaks-to}
 use Rattle.verifier.proofs.Folds.{folded-ind, folded-upto-ind, folded-gets, folded-same}
 use Rattle.verifier.proofs.Entries.{number-set-same, number-set-other, number-set-cases}
 use Rattle.verifier.proofs.Places.{place-bounds}
@@ -23,24 +22,21 @@ abbrev pub Same : List ℕ → ℕ → List ℕ → List ℕ → Type 0
 Same f k s t = (p : ℕ) → In p (places f k) → number s p ≡ number t p
 
 module _ (f s : List ℕ) (k : ℕ) where
-  abbrev larger : ℕ → ℕ → ℕ
-  larger m p = cond (numbered (number s p)) (max m (number s p)) m
-
-  larger-ind : (P : ℕ → Type 0) (m p : ℕ) → (number s p ≤ 255 → P (max m (number s p))) → P m → P (larger m p)
+  larger-ind : (P : ℕ → Type 0) (m p : ℕ) → (number s p ≤ 255 → P (max m (number s p))) → P m → P (larger s m p)
   larger-ind P m p h i = cond-both (numbered (number s p)) (max m (number s p)) m P (λ e. h (leb-true (number s p) 255 e)) (λ _. i)
 
   pub peak-le : peak f s k ≤ 255
-  peak-le = folded-ind (λ m. m ≤ 255) larger 0 (places f k) (omega arith) (λ m p _ h. larger-ind (λ m. m ≤ 255) m p (λ l. omega arith) h)
+  peak-le = folded-ind (λ m. m ≤ 255) (larger s) 0 (places f k) (omega arith) (λ m p _ h. larger-ind (λ m. m ≤ 255) m p (λ l. omega arith) h)
 
   -- no number is larger
   pub peak-above : (p : ℕ) → In p (places f k) → number s p ≤ 255 → number s p ≤ peak f s k
-  peak-above p i l = folded-gets (λ _. Unit {0}) (λ m. number s p ≤ m) larger p (λ _ _ _. tt)
+  peak-above p i l = folded-gets (λ _. Unit {0}) (λ m. number s p ≤ m) (larger s) p (λ _ _ _. tt)
       (λ m _. let e = cond-true (numbered (number s p)) (max m (number s p)) m (le-leb (number s p) 255 l) in omega arith)
       (λ m q h. larger-ind (λ m. number s p ≤ m) m q (λ _. omega arith) h) (places f k) i 0 tt
 
   -- it is one of them, or 0
   pub peak-met : (peak f s k ≡ 0) ⊎ ((p : ℕ) × In p (places f k) × (number s p ≤ 255) × (number s p ≡ peak f s k))
-  peak-met = folded-ind Met larger 0 (places f k) (inl refl) (λ m p i h. larger-ind Met m p (λ l. pick m p i l h (cases-lt (number s p) m)) h)
+  peak-met = folded-ind Met (larger s) 0 (places f k) (inl refl) (λ m p i h. larger-ind Met m p (λ l. pick m p i l h (cases-lt (number s p) m)) h)
     where
       Met : ℕ → Type 0
       Met d = (d ≡ 0) ⊎ ((p : ℕ) × In p (places f k) × (number s p ≤ 255) × (number s p ≡ d))
@@ -50,7 +46,7 @@ module _ (f s : List ℕ) (k : ℕ) where
       pick m p i l h (inr o) = inr (p, i, l, omega arith)
 
 pub peak-same : (f s t : List ℕ) (k : ℕ) → Same f k s t → peak f s k ≡ peak f t k
-peak-same f s t k h = folded-same (larger f s k) (larger f t k) 0 (places f k) (λ m p i. rw (h p i))
+peak-same f s t k h = folded-same (larger s) (larger t) 0 (places f k) (λ m p i. rw (h p i))
 
 -- the sheet with peaks: the entries of the methods lie below every place
 pub entry-low : (f : List ℕ) (k : ℕ) → k < methods f → entry k < tables-end f

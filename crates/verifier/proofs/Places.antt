@@ -1,20 +1,20 @@
 -- Where the places of a file lie, and which point is whose place. Assumes nothing.
-use mathlib.Core.Path.{_≡_, refl, sym, ap, subst}
+use mathlib.Core.Path.{_≡_, refl, sym, ap, subst, _∙_}
 use mathlib.Core.Logic.{_⊎_, inl, inr}
-use mathlib.Core.Bool.{Bool, true, false, cond}
+use mathlib.Core.Bool.{Bool, true, false, not, cond}
 use mathlib.Core.List.{List, [], _∷_, _++_, map, List·Memᴰ·head, List·Memᴰ·tail, List·Memᴰ·not-nil, List·Memᴰ·cases-cons, List·Memᴰ·append-cases, Memᴰ·append-left, Memᴰ·append-right}
 use Prim.Native.Nat.{ℕ, zero, suc, _+_, _≤_, _<_}
-use native.Mathlib.Numerals.{add-one}
 use native.Mathlib.Omega.{arith}
-use lib.Dec.{eqb, ltb}
+use lib.Dec.{eqb, ltb, leb}
 use lib.ListN.{length}
-use Rattle.std.proofs.shelf.Tests.{both-ways, eqb-true, eq-eqb, cases-eq, cases-order, ltb-true, lt-ltb}
+use Rattle.std.proofs.shelf.Tests.{both-ways, not-true, eqb-true, eqb-false, eq-eqb, cases-lt, cases-order, and-parts, ltb-true, lt-ltb, le-ltb}
 use Rattle.format.specs.Search.{any, upto}
-use Rattle.format.specs.Layout.{methods, tables-end, code-address, code-size, code-due, code-none, code-more}
+use Rattle.format.specs.Layout.{byte, methods, tables-end, code-address, code-size, code-due, code-none, code-more}
 use Rattle.format.specs.Parts.{Accepted}
 use Rattle.format.proofs.Finds.{In, any-some, some-any, any-false, in-upto, upto-in}
 use Rattle.format.proofs.Sounds.{sound}
 use Rattle.format.proofs.Answered.{code-before, code-fits}
+use Rattle.bytecode.specs.Opcodes.{length-of}
 use Rattle.bytecode.specs.Places.{Point, points, points-of, points-from, places, decoded, whole, next, code-end, is-place}
 
 -- one turn of the decoding: a place is the first, or comes after it where that is whole
@@ -53,11 +53,59 @@ decoded-in f e q (suc n) p m = go (decoded-cases f e q n p m) (decoded-in f e (n
     go (l, inl s) ih = omega arith
     go (l, inr r) ih = let h = ih (r .1) in omega arith
 
+-- the instruction after a whole one is a place too, if it begins before the end
+decoded-next : (f : List ℕ) (e q n p : ℕ) → In p (decoded f e q n) → whole f e p ≡ true → next f p < e → e ≤ q + n → In (next f p) (decoded f e q n)
+unfolding decoded
+decoded-next f e q zero p m w l h = absurd (List·Memᴰ·not-nil m)
+decoded-next f e q (suc n) p m w l h = go (decoded-cases f e q n p m) (decoded-next f e (next f q) n p)
+  where
+    after : (r : ℕ) → whole f e r ≡ true → r < next f r
+    after r w = let z = eqb-false (length-of (byte f r)) 0 (not-true (eqb (length-of (byte f r)) 0) (and-parts (not (eqb (length-of (byte f r)) 0)) (leb (next f r) e) w .0)) in omega arith
+
+    some : (r n : ℕ) → r < e → e ≤ r + n → In r (decoded f e r n)
+    some r zero l h = absurd (omega arith)
+    some r (suc n) l h = decoded-first f e r n l
+
+    go : (q < e) × ((p ≡ q) ⊎ ((whole f e q ≡ true) × In p (decoded f e (next f q) n))) →
+        (In p (decoded f e (next f q) n) → whole f e p ≡ true → next f p < e → e ≤ next f q + n → In (next f p) (decoded f e (next f q) n)) → In (next f p) (decoded f e q (suc n))
+    go (b, inl s) ih =
+        let w′ : whole f e q ≡ true = rw s at w in
+        let l′ : next f q < e = rw s at l in
+        let a = after q w′ in
+        subst (λ z. In (next f z) (decoded f e q (suc n))) (sym s) (decoded-later f e q n (next f q) b w′ (some (next f q) n l′ (omega arith)))
+    go (b, inr r) ih = let a = after q (r .0) in decoded-later f e q n (next f p) b (r .0) (ih (r .1) w l (omega arith))
+
+decoded-few : (f : List ℕ) (e q n : ℕ) → length (decoded f e q n) ≤ n
+unfolding decoded
+decoded-few f e q zero = omega arith
+decoded-few f e q (suc n) = go (ltb q e) (whole f e q) (decoded-few f e (next f q) n)
+  where
+    go : (b w : Bool) → length (decoded f e (next f q) n) ≤ n → length (cond b (q ∷ cond w (decoded f e (next f q) n) []) []) ≤ suc n
+    go true true h = omega arith
+    go true false h = omega arith
+    go false w h = omega arith
+
 pub is-place-in : (f : List ℕ) (k p : ℕ) → is-place f k p ≡ true → In p (places f k)
 is-place-in f k p e = let r = any-some (eqb p) (places f k) e in subst (λ (z : ℕ). In z (places f k)) (sym (eqb-true p (r .0) (r .2))) (r .1)
 
 pub in-is-place : (f : List ℕ) (k p : ℕ) → In p (places f k) → is-place f k p ≡ true
 in-is-place f k p i = some-any (eqb p) (places f k) p i (eq-eqb p p refl)
+
+-- a method has at most as many places as bytes
+pub places-few : (f : List ℕ) (k : ℕ) → length (places f k) ≤ code-size f k
+places-few f k = decoded-few f (code-end f k) (code-address f k) (code-size f k)
+
+-- the next instruction of a whole one, and where it is a place
+pub next-place : (f : List ℕ) (k p : ℕ) → In p (places f k) → whole f (code-end f k) p ≡ true → is-place f k (next f p) ≡ ltb (next f p) (code-end f k)
+next-place f k p i w = go (cases-lt (next f p) (code-end f k))
+  where
+    go : (next f p < code-end f k) ⊎ (code-end f k ≤ next f p) → is-place f k (next f p) ≡ ltb (next f p) (code-end f k)
+    go (inl l) = in-is-place f k (next f p) (decoded-next f (code-end f k) (code-address f k) (code-size f k) p i w l (omega arith)) ∙ sym (lt-ltb (next f p) (code-end f k) l)
+    go (inr l) = none (is-place f k (next f p)) refl ∙ sym (le-ltb (next f p) (code-end f k) l)
+      where
+        none : (b : Bool) → is-place f k (next f p) ≡ b → b ≡ false
+        none true e = let r = decoded-in f (code-end f k) (code-address f k) (code-size f k) (next f p) (is-place-in f k (next f p) e) in absurd (omega arith)
+        none false e = refl
 
 -- the point of a place and its method
 abbrev pub point : ℕ → ℕ → Point
@@ -136,6 +184,10 @@ module _ (f : List ℕ) (g : Accepted f) where
       after-tables : (k : ℕ) → tables-end f ≤ code-due f k
       after-tables zero = let a = code-none f in omega arith
       after-tables (suc k) = let a = code-none f in let b = code-before f 0 (suc k) (omega arith) in omega arith
+
+  -- so a place is an index into the file, and sixteen bits hold it
+  pub place-inside : (k p : ℕ) → k < methods f → is-place f k p ≡ true → (p < length f) × (p < 65535)
+  place-inside k p h e = let b = place-bounds k p h (is-place-in f k p e) in let s = sound f g .short in omega arith
 
   -- the places of two methods are apart
   pub places-apart : (j k p : ℕ) → j < methods f → k < methods f → In p (places f j) → In p (places f k) → j ≡ k

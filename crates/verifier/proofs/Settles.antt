@@ -167,9 +167,11 @@ module _ (f : List ℕ) (g : Accepted f) where
       go t j h (inr r) = r ∙ h
 
   numbering-going : Going (numbering f)
+  unfolding numbering
   numbering-going = folded-ind Going (λ s _. pass f s) (starts f) (points f) (starts-made, starts-begun) (λ t _ _ h. pass-kept t h)
 
   numbering-idle : (x : Point) → In x (points f) → Idle (numbering f) x
+  unfolding numbering
   numbering-idle = folded-settles (pass f) (blank-count f) (λ t. (x : Point) → In x (points f) → Idle t x) Going pass-or pass-kept (starts f) (points f) (starts-made, starts-begun) (countBy-le-length (blank-at (starts f)) (points f))
 
   -- nothing is left to number

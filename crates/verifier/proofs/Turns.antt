@@ -1,7 +1,7 @@
 -- The turns of the worklist: what they keep, that they end, and what they lead to. Assumes nothing.
 use mathlib.Core.Path.{_≡_, refl, sym, ap, subst, _∙_}
 use mathlib.Core.Logic.{_⊎_, inl, inr}
-use mathlib.Core.Bool.{Bool, true, false, cond, _&&_}
+use mathlib.Core.Bool.{Bool, true, false, _&&_}
 use mathlib.Core.List.{List, [], _∷_, _++_, List·Memᴰ·head, List·Memᴰ·tail, List·Memᴰ·not-nil, List·Memᴰ·cases-cons, List·Memᴰ·append-cases, Memᴰ·append-left, Memᴰ·append-right}
 use Prim.Native.Nat.{ℕ, zero, suc, _+_, _≤_, _<_}
 use native.Mathlib.Omega.{arith}
@@ -10,7 +10,7 @@ use lib.ListN.{length, set, length-set, length-append}
 use Rattle.std.specs.Iters.{folded}
 use Rattle.std.specs.shelf.Lists.{countBy}
 use Rattle.std.proofs.shelf.Sums.{countBy-le-length}
-use Rattle.std.proofs.shelf.Tests.{both-ways, eqb-true, eq-eqb, ne-eqb, cases-eq, and-parts, and-from, cond-both}
+use Rattle.std.proofs.shelf.Tests.{both-ways, eqb-true, eq-eqb, ne-eqb, cases-eq, and-parts, and-from, and-left, and-right, cond-true, cond-false, cond-both}
 use Rattle.format.specs.Layout.{methods, code-address, code-size}
 use Rattle.format.specs.Parts.{Accepted}
 use Rattle.format.proofs.Finds.{In}
@@ -37,6 +37,16 @@ pend-ind P f k d w q h step =
     cond-both (is-place f k q && eqb (number (w .sheet) q) blank) (work (set (w .sheet) q d) (w .pending ++ (pending q d ∷ []))) w P
     (λ e. let r = and-parts (is-place f k q) (eqb (number (w .sheet) q) blank) e in step (is-place-in f k q (r .0)) (eqb-true (number (w .sheet) q) blank (r .1)))
     (λ _. h)
+
+-- the three ways of a gift
+pub pend-new : (f : List ℕ) (k d : ℕ) (w : Work) (q : ℕ) → is-place f k q ≡ true → number (w .sheet) q ≡ blank → pend f k d w q ≡ work (set (w .sheet) q d) (w .pending ++ (pending q d ∷ []))
+pend-new f k d w q a b = cond-true (is-place f k q && eqb (number (w .sheet) q) blank) (work (set (w .sheet) q d) (w .pending ++ (pending q d ∷ []))) w (and-from (is-place f k q) (eqb (number (w .sheet) q) blank) a (eq-eqb (number (w .sheet) q) blank b))
+
+pub pend-astray : (f : List ℕ) (k d : ℕ) (w : Work) (q : ℕ) → is-place f k q ≡ false → pend f k d w q ≡ w
+pend-astray f k d w q a = cond-false (is-place f k q && eqb (number (w .sheet) q) blank) (work (set (w .sheet) q d) (w .pending ++ (pending q d ∷ []))) w (and-left (is-place f k q) (eqb (number (w .sheet) q) blank) a)
+
+pub pend-old : (f : List ℕ) (k d : ℕ) (w : Work) (q : ℕ) → (number (w .sheet) q ≡ blank → ⊥) → pend f k d w q ≡ w
+pend-old f k d w q b = cond-false (is-place f k q && eqb (number (w .sheet) q) blank) (work (set (w .sheet) q d) (w .pending ++ (pending q d ∷ []))) w (and-right (is-place f k q) (eqb (number (w .sheet) q) blank) (ne-eqb (number (w .sheet) q) blank b))
 
 module _ (f : List ℕ) (g : Accepted f) (k : ℕ) (l : k < methods f) where
   inside : (s : List ℕ) → length s ≡ length f → (q : ℕ) → In q (places f k) → q < length s

@@ -58,9 +58,13 @@ breaks f s x =
 abbrev pub method-breaks : List ℕ → List ℕ → ℕ → Bool
 method-breaks f s k = any (λ p. breaks f s (record { method = k; place = p })) (places f k)
 
+-- the larger of m and the number of p, if it has one
+abbrev pub larger : List ℕ → ℕ → ℕ → ℕ
+larger s m p = cond (numbered (number s p)) (max m (number s p)) m
+
 -- the largest number of method k's places
 abbrev pub peak : List ℕ → List ℕ → ℕ → ℕ
-peak f s k = folded (λ m p. cond (numbered (number s p)) (max m (number s p)) m) 0 (places f k)
+peak f s k = folded (larger s) 0 (places f k)
 
 abbrev pub bad-peak : List ℕ → List ℕ → ℕ → Bool
 bad-peak f s k = not (eqb (number s (entry k)) (peak f s k))
@@ -98,7 +102,7 @@ abbrev pub starts : List ℕ → List ℕ
 starts f = folded (λ s k. set s (code-address f k) 0) (blanks f) (upto (methods f))
 
 -- every place that its method's start reaches, with the number that a way there gives it: as many passes as there are places
-abbrev pub numbering : List ℕ → List ℕ
+unfoldable pub numbering : List ℕ → List ℕ
 numbering f = folded (λ s _. pass f s) (starts f) (points f)
 
 -- the numbering breaks the rule in method k
