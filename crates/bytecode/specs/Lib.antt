@@ -1,3 +1,4 @@
 pub mod Opcodes
+pub mod Encoding
 pub mod Places
 pub mod Rules

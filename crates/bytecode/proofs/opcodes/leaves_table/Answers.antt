@@ -1,0 +1,9 @@
+use Rattle.format.specs.Search.{from}
+use Rattle.bytecode.specs.Opcodes.{leaves-of}
+use Rattle.bytecode.proofs.Tables.{entry-is}
+use Rattle.bytecode.proofs.opcodes.leaves_table.Needs as need
+
+-- the table is the list of what the rows say of the opcodes below 256: antt computes it here
+pub returns : need.returns
+unfolding from
+returns c = entry-is leaves-of 256
