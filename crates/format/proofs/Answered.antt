@@ -19,7 +19,7 @@ use Rattle.format.specs.Parts.{Accepted, Piece, within, among, program-name, m
 use Rattle.format.proofs.Sounds.{sound}
 
 -- the code of a method ends where that of a later one begins, or before
-code-before : (f : List ℕ) (i m : ℕ) → i < m → code-due f i + code-size f i ≤ code-due f m
+pub code-before : (f : List ℕ) (i m : ℕ) → i < m → code-due f i + code-size f i ≤ code-due f m
 code-before f i zero l = absurd (omega arith)
 code-before f i (suc m) l =
     elim (cases-lt i m) [
