@@ -1,2 +1,6 @@
 pub mod Tables
 pub mod Decoding
+pub mod Walks
+pub mod Accepted
+pub mod Filled
+pub mod Points

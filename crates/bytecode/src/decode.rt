@@ -1,7 +1,7 @@
 //! Instructions taken apart from their bytes, the opcode followed by its arguments.
 ghost use mathlib.Core.Path.{_≡_};
-ghost use Prim.Native.Nat.{_+_, _*_};
-ghost use lib.ListN.{drop};
+ghost use Prim.Native.Nat.{_+_, _*_, _≤_};
+ghost use lib.ListN.{length, drop};
 ghost use Rattle.std.specs.Options.{mapped, Cases as BySome};
 ghost use Rattle.format.specs.Layout.{byte};
 ghost use Rattle.bytecode.specs.Encoding.{Encodes};
@@ -19,7 +19,7 @@ fn number(high: u8, low: u8) -> u16
 pub fn decode(bytes: &[u8]) -> Option<(Instruction, &[u8])>
     ensures is { λ r. ⌜ mapped (λ x. x .0) r ≡ decode (now (bytes .entry)) ⌝ }
     ensures rest { λ r. ⌜ BySome r (Unit {0}) (λ x. now (x .1) ≡ drop (length-of (byte (now (bytes .entry)) 0)) (now (bytes .entry))) ⌝ }
-    ensures from { λ r. ⌜ BySome r (Unit {0}) (λ x. Encodes (now (bytes .entry)) (x .0)) ⌝ }
+    ensures from { λ r. ⌜ BySome r (Unit {0}) (λ x. Encodes (now (bytes .entry)) 0 (x .0)) ⌝ }
 {
     match bytes {
         [0x00, rest @ ..] => Some((Instruction::Nop, rest)),
@@ -52,5 +52,17 @@ pub fn decode(bytes: &[u8]) -> Option<(Instruction, &[u8])>
         [0xFA, index, rest @ ..] => Some((Instruction::Setout(*index), rest)),
         [0xFF, rest @ ..] => Some((Instruction::Halt, rest)),
         _ => None,
+    }
+}
+
+/// The instruction at `place` of the file, if its opcode is known. Only for the crates above: four bytes of the file stand there.
+pub fn instruction_at(file: &[u8], place: usize) -> Option<Instruction>
+    requires { ⌜ place + 4 ≤ length (now file) ⌝ }
+    ensures is { λ r. ⌜ r ≡ decode (drop place (now (file .entry))) ⌝ }
+    ensures at { λ r. ⌜ BySome r (length-of (byte (now (file .entry)) place) ≡ 0) (λ i. Encodes (now (file .entry)) place i) ⌝ }
+{
+    match decode(&file[place..]) {
+        Some((instruction, _)) => Some(instruction),
+        None => None,
     }
 }

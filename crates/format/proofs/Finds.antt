@@ -58,7 +58,7 @@ module _ {A : Type 0} where
   unfolding any
   any-cons t x xs = refl
 
-  any-nil : (t : A → Bool) → any t [] ≡ false
+  pub any-nil : (t : A → Bool) → any t [] ≡ false
   unfolding any
   any-nil t = refl
 

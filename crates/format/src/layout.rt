@@ -9,36 +9,36 @@ use crate::bytes::byte_at;
 
 /// A method's entry in the table: the address of its code, its variables, and the address of its debug block.
 #[derive(Clone, Copy)]
-pub(crate) struct MethodEntry {
-    pub(crate) code: u32,
-    pub(crate) parameters: u8,
-    pub(crate) locals: u8,
-    pub(crate) debug: u32,
+pub struct MethodEntry {
+    pub code: u32,
+    pub parameters: u8,
+    pub locals: u8,
+    pub debug: u32,
 }
 
 /// The head of a method's debug block: the sizes of its name and of its code.
 #[derive(Clone, Copy)]
-pub(crate) struct DebugHead {
-    pub(crate) name_size: u8,
-    pub(crate) code_size: u16,
+pub struct DebugHead {
+    pub name_size: u8,
+    pub code_size: u16,
 }
 
 /// How many methods there are.
-pub(crate) fn method_count(file: &[u8]) -> u8
+pub fn method_count(file: &[u8]) -> u8
     ensures { λ r. ⌜ r ≡ methods (now (file .entry)) ⌝ }
 {
     byte_at(file, 10)
 }
 
 /// How many constants there are.
-pub(crate) fn constant_count(file: &[u8]) -> u8
+pub fn constant_count(file: &[u8]) -> u8
     ensures { λ r. ⌜ r ≡ constants (now (file .entry)) ⌝ }
 {
     byte_at(file, 11)
 }
 
 /// How many messages there are.
-pub(crate) fn message_count(file: &[u8]) -> u8
+pub fn message_count(file: &[u8]) -> u8
     ensures { λ r. ⌜ r ≡ messages (now (file .entry)) ⌝ }
 {
     byte_at(file, 12)
@@ -52,8 +52,8 @@ pub(crate) fn entry_place(k: usize) -> usize
     13 + 10 * k
 }
 
-/// The entry of method `k`.
-pub(crate) fn method_entry(file: &[u8], k: usize) -> MethodEntry
+/// The entry of method `k`. Only for the crates above, whose methods are below 256.
+pub fn method_entry(file: &[u8], k: usize) -> MethodEntry
     requires { ⌜ k < 256 ⌝ }
     ensures { λ r. ⌜ r ≡ entry-of (now (file .entry)) k ⌝ }
 {
@@ -66,8 +66,8 @@ pub(crate) fn method_entry(file: &[u8], k: usize) -> MethodEntry
     }
 }
 
-/// The head of the debug block of method `k`, at the address that its entry holds.
-pub(crate) fn debug_head(file: &[u8], k: usize) -> DebugHead
+/// The head of the debug block of method `k`, at the address that its entry holds. Only for the crates above, whose methods are below 256.
+pub fn debug_head(file: &[u8], k: usize) -> DebugHead
     requires { ⌜ k < 256 ⌝ }
     ensures { λ r. ⌜ r ≡ head-of (now (file .entry)) k ⌝ }
 {
