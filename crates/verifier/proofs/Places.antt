@@ -189,6 +189,9 @@ module _ (f : List ℕ) (g : Accepted f) where
   pub place-inside : (k p : ℕ) → k < methods f → is-place f k p ≡ true → (p < length f) × (p < 65535)
   place-inside k p h e = let b = place-bounds k p h (is-place-in f k p e) in let s = sound f g .short in omega arith
 
+  pub start-inside : (k : ℕ) → k < methods f → (code-address f k < length f) × (code-address f k < 65535)
+  start-inside k h = place-inside k (code-address f k) h (in-is-place f k (code-address f k) (start-is-place k h))
+
   -- the places of two methods are apart
   pub places-apart : (j k p : ℕ) → j < methods f → k < methods f → In p (places f j) → In p (places f k) → j ≡ k
   places-apart j k p l m a b = go (cases-order j k) (place-in j p l a) (place-in k p m b)

@@ -281,8 +281,14 @@ module _ (f : List ℕ) (g : Accepted f) (k : ℕ) (l : k < methods f) where
     others = λ p no. number-set-other t q d p (λ e. no (subst (λ z. In z (places f k)) (sym e) m)) ∙ h .others p no;
   }
 
+  pub only-none : (s : List ℕ) → Only-method f k s s
+  only-none s = record { long = refl; others = λ _ _. refl }
+
+  pub only-more : (s t u : List ℕ) → Only-method f k s t → Only-method f k t u → Only-method f k s u
+  only-more s t u a b = record { long = b .long ∙ a .long; others = λ p no. b .others p no ∙ a .others p no }
+
   pub only-start : (s : List ℕ) → Only-method f k s (set s (code-address f k) 0)
-  only-start s = only-set s s (code-address f k) 0 (start-is-place f g k l) (record { long = refl; others = λ _ _. refl })
+  only-start s = only-set s s (code-address f k) 0 (start-is-place f g k l) (only-none s)
 
   pub only-turn : (s : List ℕ) (w : Work) (x : Pending) → Only-method f k s (w .sheet) → Only-method f k s (turn f k w x .sheet)
   only-turn s w x h = cond-both (balanced f (x .place) (x .number)) (folded (pend f k d) w (successors f (x .place))) w (λ v. Only-method f k s (v .sheet)) (λ _. given) (λ _. h)
