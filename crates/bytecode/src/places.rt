@@ -32,8 +32,9 @@ pub fn code_range(file: &[u8], k: usize) -> CodeRange
     }
 }
 
-/// The place after the instruction at `place`; `end`, if the instruction is unknown or ends past it.
-pub(crate) fn next_place(file: &[u8], place: usize, end: usize) -> usize
+/// The place after the instruction at `place`; `end`, if the instruction is unknown or ends past it. Only for the crates above: the place is
+/// before the end, and the end inside the file.
+pub fn next_place(file: &[u8], place: usize, end: usize) -> usize
     requires { ⌜ place < end ⌝ ∗ ⌜ end ≤ length (now file) ⌝ ∗ ⌜ end < 65536 ⌝ }
     ensures is { λ r. ⌜ r ≡ cond (whole (now (file .entry)) end place) (next (now (file .entry)) place) end ⌝ }
     ensures later { λ r. ⌜ place < r ⌝ }

@@ -15,3 +15,5 @@ pub mod Turns
 pub mod Methods
 pub mod Tally
 pub mod Verified
+pub mod Steps
+pub mod Walking

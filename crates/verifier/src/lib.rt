@@ -1,6 +1,8 @@
 //! The verifier: it numbers each place of a file with the depth of the operand stack there, and holds a sheet of such numbers to their rule.
 ghost use Rattle.verifier.specs.Verdicts.{Numbers-reached, Numbers-counted, Exact-refusal-17, Place-of-refusal-17, No-sheet-whatever, Check-admits, Agrees, Agrees-where-reached, Sheet-facts};
 
+mod judge;
+mod method_peak;
 pub mod pending;
 
 /// Check numbers exactly the places that are reached.
