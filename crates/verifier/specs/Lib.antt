@@ -1,3 +1,4 @@
 pub mod Numbering
 pub mod Verdicts
 pub mod Worklist
+pub mod Cases
