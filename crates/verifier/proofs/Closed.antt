@@ -70,11 +70,8 @@ module _ (f : List ℕ) (g : Accepted f) (k : ℕ) (l : k < methods f) where
       go (inl x) (inr y) = counts-numbered f g k l (number s) (closed-rule s c a w) (y .1) .1
       go (inl x) (inl y) = x ∙ sym y
 
--- sheets of a whole file: each refuses the methods that the other does, and where there is none they are the same
+-- sheets of a whole file are the same, where none of its methods breaks the rule
 module _ (f : List ℕ) (g : Accepted f) (s t : List ℕ) (c : Complete f s) (d : Complete f t) where
-  pub complete-breaks : (k : ℕ) → k < methods f → method-breaks f s k ≡ method-breaks f t k
-  complete-breaks k l = closed-breaks f g k l s t (c .closed k l) (d .closed k l)
-
   pub complete-same : ((k : ℕ) → k < methods f → method-breaks f t k ≡ false) → s ≡ t
   complete-same h = ext-getD blank s t (c .long ∙ sym (d .long)) (λ p _. go p (place-cases f p))
     where

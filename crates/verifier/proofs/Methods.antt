@@ -1,12 +1,11 @@
 -- The worklist over all methods: what is closed stays closed, and what a complete sheet says of check's answer. Assumes nothing.
-use mathlib.Core.Path.{_≡_, refl, sym, ap, subst, _∙_}
+use mathlib.Core.Path.{_≡_, sym, ap, subst, _∙_}
 use mathlib.Core.Logic.{_⊎_, inl, inr}
 use mathlib.Core.Bool.{true}
 use mathlib.Core.List.{List, [], _∷_}
 use Prim.Native.Nat.{ℕ, _+_, _≤_, _<_}
 use native.Mathlib.Omega.{arith}
 use lib.ListN.{length, set}
-use Rattle.std.specs.declared.option.Option.{Option}
 use Rattle.std.specs.declared.option.Option.the-variants.{None}
 use Rattle.std.proofs.shelf.Tests.{cases-eq}
 use Rattle.format.specs.Search.{first, upto}
@@ -23,7 +22,7 @@ use Rattle.verifier.proofs.Entries.{blanks-blank, blanks-length}
 use Rattle.verifier.proofs.Folds.{first-same}
 use Rattle.verifier.proofs.Places.{start-is-place, places-apart, places-few}
 use Rattle.verifier.proofs.Peaks.{Same}
-use Rattle.verifier.proofs.Closed.{closed-breaks, complete-breaks, complete-same}
+use Rattle.verifier.proofs.Closed.{closed-breaks, complete-same}
 use Rattle.verifier.proofs.Settles.{numbering-complete}
 use Rattle.verifier.proofs.Turns.{work, pending, spreads-start, spreads-turn, spreads-end, turn-left, start-left, only-start, only-more, only-turn}
 use Rattle.verifier.proofs.Refusals.{numberless, last-rule, earlier-17}

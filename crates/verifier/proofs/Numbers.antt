@@ -1,7 +1,7 @@
 -- The numbers of check's sheet: which places have one, and that every admitted sheet has the same. Assumes nothing.
-use mathlib.Core.Path.{_≡_, sym, subst, _∙_}
-use mathlib.Core.Logic.{_⊎_, inl, inr}
-use mathlib.Core.Bool.{true, false}
+use mathlib.Core.Path.{_≡_, sym, subst}
+use mathlib.Core.Logic.{inl, inr}
+use mathlib.Core.Bool.{false}
 use mathlib.Core.List.{List}
 use Prim.Native.Nat.{ℕ, _≤_, _<_}
 use native.Mathlib.Omega.{arith}
@@ -11,8 +11,8 @@ use Rattle.format.specs.Layout.{methods}
 use Rattle.format.specs.Parts.{Accepted}
 use Rattle.format.proofs.Finds.{In}
 use Rattle.bytecode.specs.Places.{places}
-use Rattle.verifier.specs.Numbering.{blank, number, numbered, numbering, unnumberable, Admitted, check-refusal}
-use Rattle.verifier.specs.Verdicts.{Reached, Counts, Keeps-rule, Numbers-reached, Numbers-counted, Agrees, Agrees-where-reached}
+use Rattle.verifier.specs.Numbering.{number, numbering, unnumberable, check-refusal}
+use Rattle.verifier.specs.Verdicts.{Counts, Keeps-rule, Numbers-reached, Numbers-counted, Agrees, Agrees-where-reached}
 use Rattle.verifier.specs.Worklist.{Counted}
 use Rattle.verifier.proofs.Rule.{keeps-rule, method-rule, rule-method}
 use Rattle.verifier.proofs.Ways.{counts-reached, counts-numbered, reached-counts}

@@ -1,5 +1,5 @@
 -- The peaks: the largest of a method's numbers, and a sheet with them at the methods' entries. Assumes nothing.
-use mathlib.Core.Path.{_≡_, refl, sym, ap, subst, _∙_}
+use mathlib.Core.Path.{_≡_, refl, ap, subst, _∙_}
 use mathlib.Core.Logic.{_⊎_, inl, inr}
 use mathlib.Core.List.{List}
 use Prim.Native.Nat.{ℕ, _+_, _*_, _≤_, _<_, max}
@@ -10,9 +10,8 @@ use Rattle.format.specs.Search.{upto}
 use Rattle.format.specs.Layout.{methods, constants, entry, tables-end}
 use Rattle.format.specs.Parts.{Accepted}
 use Rattle.format.proofs.Finds.{In, in-upto}
-use Rattle.format.proofs.Sounds.{sound}
 use Rattle.bytecode.specs.Places.{places}
-use Rattle.verifier.specs.Numbering.{blank, number, numbered, larger, peak, peaks-to}
+use Rattle.verifier.specs.Numbering.{number, numbered, larger, peak, peaks-to}
 use Rattle.verifier.proofs.Folds.{folded-ind, folded-upto-ind, folded-gets, folded-same}
 use Rattle.verifier.proofs.Entries.{number-set-same, number-set-other, number-set-cases}
 use Rattle.verifier.proofs.Places.{place-bounds}

@@ -9,7 +9,7 @@ use lib.Dec.{eqb, ltb, leb}
 use lib.ListN.{length}
 use Rattle.std.proofs.shelf.Tests.{both-ways, not-true, eqb-true, eqb-false, eq-eqb, cases-lt, cases-order, and-parts, ltb-true, lt-ltb, le-ltb}
 use Rattle.format.specs.Search.{any, upto}
-use Rattle.format.specs.Layout.{byte, methods, tables-end, code-address, code-size, code-due, code-none, code-more}
+use Rattle.format.specs.Layout.{byte, methods, tables-end, code-address, code-size, code-due, code-none}
 use Rattle.format.specs.Parts.{Accepted}
 use Rattle.format.proofs.Finds.{In, any-some, some-any, any-false, in-upto, upto-in}
 use Rattle.format.proofs.Sounds.{sound}

@@ -6,7 +6,7 @@ use mathlib.Core.List.{List}
 use Prim.Native.Nat.{ℕ, _≤_, _<_}
 use native.Mathlib.Omega.{arith}
 use lib.Dec.{eqb, leb}
-use Rattle.std.proofs.shelf.Tests.{both-ways, eqb-true, eq-eqb, leb-true, leb-false, le-leb, and-parts, and-from, cases-bool}
+use Rattle.std.proofs.shelf.Tests.{eqb-true, eq-eqb, leb-true, leb-false, le-leb, and-parts, and-from, cases-bool}
 use Rattle.std.proofs.shelf.Ways.{tells}
 use Rattle.format.specs.Search.{all}
 use Rattle.format.specs.Layout.{methods, code-address}

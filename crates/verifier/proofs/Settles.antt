@@ -18,7 +18,7 @@ use Rattle.format.proofs.Finds.{In, in-upto}
 use Rattle.bytecode.specs.Places.{Point, points, places, is-place, successors}
 use Rattle.verifier.specs.Numbering.{blank, number, numbered, result, balanced, give, give-on, pass, blanks, starts, numbering}
 use Rattle.verifier.specs.Verdicts.{Counts, none-at-start, result-onward}
-use Rattle.verifier.specs.Worklist.{Counted, Closed, Complete}
+use Rattle.verifier.specs.Worklist.{Counted, Complete}
 use Rattle.verifier.proofs.Folds.{folded-ind, folded-upto-ind, folded-gets, folded-or, folded-settles}
 use Rattle.verifier.proofs.Entries.{number-set-same, number-set-cases, fewer-blank, blanks-blank, blanks-length}
 use Rattle.verifier.proofs.Places.{point, points-in, in-points, is-place-in, in-is-place, start-is-place, place-bounds, places-apart}

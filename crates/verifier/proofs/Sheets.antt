@@ -1,7 +1,6 @@
 -- The sheet after check, entry by entry; and what check accepts, admit accepts with check's sheet. Assumes nothing.
 use mathlib.Core.Path.{_≡_, refl, sym, ap, subst, _∙_}
 use mathlib.Core.Logic.{_⊎_, inl, inr}
-use mathlib.Core.Bool.{Bool, true, false, cond}
 use mathlib.Core.List.{List, _++_}
 use Prim.Native.Nat.{ℕ, _+_, _-_, _≤_, _<_}
 use native.Mathlib.Omega.{arith}
@@ -13,7 +12,7 @@ use Rattle.std.proofs.shelf.Lists.{getD-append-left, getD-append-right, getD-dr
 use Rattle.std.proofs.shelf.Tests.{cases-lt, le-leb, lt-leb, cond-true, cond-false}
 use Rattle.refusals.specs.Refusals.{number-of}
 use Rattle.refusals.specs.declared.Refusal.{Refusal}
-use Rattle.format.specs.Layout.{methods, entry, tables-end, code-address}
+use Rattle.format.specs.Layout.{methods, entry, code-address}
 use Rattle.format.specs.Parts.{Accepted}
 use Rattle.format.proofs.Finds.{In, some-none}
 use Rattle.format.proofs.Sounds.{sound}

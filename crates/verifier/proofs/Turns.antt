@@ -3,7 +3,7 @@ use mathlib.Core.Path.{_≡_, refl, sym, ap, subst, _∙_}
 use mathlib.Core.Logic.{_⊎_, inl, inr}
 use mathlib.Core.Bool.{Bool, true, false, _&&_}
 use mathlib.Core.List.{List, [], _∷_, _++_, List·Memᴰ·head, List·Memᴰ·tail, List·Memᴰ·not-nil, List·Memᴰ·cases-cons, List·Memᴰ·append-cases, Memᴰ·append-left, Memᴰ·append-right}
-use Prim.Native.Nat.{ℕ, zero, suc, _+_, _≤_, _<_}
+use Prim.Native.Nat.{ℕ, _+_, _≤_, _<_}
 use native.Mathlib.Omega.{arith}
 use lib.Dec.{eqb}
 use lib.ListN.{length, set, length-set, length-append}
@@ -11,17 +11,17 @@ use Rattle.std.specs.Iters.{folded}
 use Rattle.std.specs.shelf.Lists.{countBy}
 use Rattle.std.proofs.shelf.Sums.{countBy-le-length}
 use Rattle.std.proofs.shelf.Tests.{both-ways, eqb-true, eq-eqb, ne-eqb, cases-eq, and-parts, and-from, and-left, and-right, cond-true, cond-false, cond-both}
-use Rattle.format.specs.Layout.{methods, code-address, code-size}
+use Rattle.format.specs.Layout.{methods, code-address}
 use Rattle.format.specs.Parts.{Accepted}
 use Rattle.format.proofs.Finds.{In}
 use Rattle.bytecode.specs.Places.{places, is-place, successors}
 use Rattle.verifier.specs.declared.pending.Pending.{Pending}
 use Rattle.verifier.specs.Numbering.{blank, number, result, balanced}
 use Rattle.verifier.specs.Verdicts.{Counts, none-at-start, result-onward}
-use Rattle.verifier.specs.Worklist.{Work, pend, turn, turns-left, Counted, Settled, Spreads, Closed, Closed-to, Complete, Only-method}
+use Rattle.verifier.specs.Worklist.{Work, pend, turn, turns-left, Counted, Settled, Spreads, Closed, Only-method}
 use Rattle.verifier.proofs.Folds.{folded-ind, folded-gets, countBy-lt}
-use Rattle.verifier.proofs.Entries.{number-set-same, number-set-other, number-set-cases, fewer-blank, blanks-blank, blanks-length}
-use Rattle.verifier.proofs.Places.{is-place-in, in-is-place, start-is-place, place-bounds, places-apart}
+use Rattle.verifier.proofs.Entries.{number-set-same, number-set-other, number-set-cases, fewer-blank}
+use Rattle.verifier.proofs.Places.{is-place-in, in-is-place, start-is-place, place-bounds}
 use Rattle.verifier.proofs.Rule.{balanced-parts}
 
 abbrev pub work : List ℕ → List Pending → Work

@@ -1,4 +1,5 @@
 //! The verifier: it numbers each place of a file with the depth of the operand stack there, and holds a sheet of such numbers to their rule.
+ghost use Rattle.verifier.specs.Cases.{Worked-cases};
 ghost use Rattle.verifier.specs.Verdicts.{Numbers-reached, Numbers-counted, Exact-refusal-17, Place-of-refusal-17, No-sheet-whatever, Check-admits, Agrees, Agrees-where-reached, Sheet-facts};
 
 mod judge;
@@ -64,6 +65,13 @@ pub fn agrees_where_reached() -> u8
 /// What check leaves in the sheet, entry by entry.
 pub fn sheet_facts() -> u8
     ensures { λ _. ⌜ Sheet-facts ⌝ }
+{
+    0
+}
+
+/// Worked cases, computed.
+pub fn worked_cases() -> u8
+    ensures { λ _. ⌜ Worked-cases ⌝ }
 {
     0
 }
