@@ -44,8 +44,8 @@ pub fn message_count(file: &[u8]) -> u8
     byte_at(file, 12)
 }
 
-/// Where the entry of method `k` begins.
-pub(crate) fn entry_place(k: usize) -> usize
+/// Where the entry of method `k` begins. Only for the crates above, whose methods are below 256.
+pub fn entry_place(k: usize) -> usize
     requires { ⌜ k < 256 ⌝ }
     ensures { λ r. ⌜ r ≡ entry k ⌝ }
 {

@@ -1,11 +1,11 @@
 -- A walk over a method's places stands at a place of the method. Assumes nothing.
-use mathlib.Core.Path.{_≡_, sym, subst}
+use mathlib.Core.Path.{_≡_, refl, sym, ap, subst, _∙_}
 use mathlib.Core.List.{List, List·Memᴰ·head, List·Memᴰ·tail}
-use mathlib.Core.Path.{refl}
-use Prim.Native.Nat.{ℕ, _<_}
+use Prim.Native.Nat.{ℕ, _<_, _≤_}
+use Rattle.std.specs.Iters.{folded}
 use Rattle.format.proofs.Finds.{In}
 use Rattle.bytecode.specs.Places.{places}
-use Rattle.bytecode.proofs.Walks.{after, left, left-more}
+use Rattle.bytecode.proofs.Walks.{after, left, left-more, left-none}
 
 module _ (f : List ℕ) (e p : ℕ) (l : p < e) where
   pub left-here : In p (left f e p)
@@ -17,3 +17,11 @@ module _ (f : List ℕ) (e p : ℕ) (l : p < e) where
   -- what is left after a step was left before it
   pub stays-in : (k q : ℕ) → ((x : ℕ) → In x (left f e p) → In x (places f k)) → q ≡ after f e p → (x : ℕ) → In x (left f e q) → In x (places f k)
   stays-in k q h s x m = h x (left-later x (subst (λ z. In x (left f e z)) s m))
+
+-- a fold of the places, as a walk goes
+module _ {B : Type 0} (f : List ℕ) (e : ℕ) (t : B → ℕ → B) (p : ℕ) (b r : B) (h : folded t b (left f e p) ≡ r) where
+  pub fold-goes-on : (q : ℕ) (d : B) → p < e → d ≡ t b p → q ≡ after f e p → folded t d (left f e q) ≡ r
+  fold-goes-on q d l x s = ap (λ z. folded t z (left f e q)) x ∙ ap (λ z. folded t (t b p) (left f e z)) s ∙ sym (ap (folded t b) (left-more f e p l)) ∙ h
+
+  pub fold-ends : e ≤ p → b ≡ r
+  fold-ends l = sym (ap (folded t b) (left-none f e p l)) ∙ h

@@ -98,9 +98,11 @@ Agrees = (f s : List ℕ) → Admitted f s → (k p : ℕ) → Place f k p →
     numbered (number (numbering f) p) ≡ true → number s p ≡ number (numbering f) p
 
 -- which is at every reached place
+abbrev pub Agrees-with-check : List ℕ → List ℕ → Type 0
+Agrees-with-check f s = (k p : ℕ) → k < methods f → Reached f k p → (numbered (number (numbering f) p) ≡ true) × (number s p ≡ number (numbering f) p)
+
 abbrev pub Agrees-where-reached : Type 0
-Agrees-where-reached = (f s : List ℕ) → Admitted f s → (k p : ℕ) → k < methods f → Reached f k p →
-    (numbered (number (numbering f) p) ≡ true) × (number s p ≡ number (numbering f) p)
+Agrees-where-reached = (f s : List ℕ) → Admitted f s → Agrees-with-check f s
 
 -- the sheet t after check, from the sheet s before: past the file it is as before
 abbrev pub Kept-past : List ℕ → List ℕ → List ℕ → Type 0

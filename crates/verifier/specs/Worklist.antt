@@ -1,7 +1,7 @@
 -- The worklist of check: a turn of it, what it has done in a sheet at each time, and when nothing is left to number. Assumes nothing.
 use mathlib.Core.Path.{_≡_}
 use mathlib.Core.Logic.{_⊎_}
-use mathlib.Core.Bool.{true, cond, _&&_}
+use mathlib.Core.Bool.{Bool, true, cond, _&&_}
 use mathlib.Core.List.{List, [], _∷_, _++_, List·Memᴰ}
 use Prim.Native.Nat.{ℕ, _+_, _≤_, _<_}
 use lib.Dec.{eqb}
@@ -19,12 +19,16 @@ pub record Work : Type 0 where
   pub sheet : List ℕ
   pub pending : List Pending
 
--- q gets the number d and waits, if it is a place of method k and still blank
-abbrev pub pend : List ℕ → ℕ → ℕ → Work → ℕ → Work
-pend f k d w q =
-    cond (is-place f k q && eqb (number (w .sheet) q) blank)
+-- q gets the number d and waits, if it is inside and still blank
+abbrev pub pend-if : Bool → ℕ → Work → ℕ → Work
+pend-if inside d w q =
+    cond (inside && eqb (number (w .sheet) q) blank)
     (record { sheet = set (w .sheet) q d; pending = w .pending ++ (record { place = q; number = d } ∷ []) })
     w
+
+-- inside means a place of method k
+abbrev pub pend : List ℕ → ℕ → ℕ → Work → ℕ → Work
+pend f k d w q = pend-if (is-place f k q) d w q
 
 -- a turn: x, which waited, gives its result to its successors if it is balanced
 abbrev pub turn : List ℕ → ℕ → Work → Pending → Work

@@ -2,9 +2,11 @@
 ghost use Rattle.verifier.specs.Cases.{Worked-cases};
 ghost use Rattle.verifier.specs.Verdicts.{Numbers-reached, Numbers-counted, Exact-refusal-17, Place-of-refusal-17, No-sheet-whatever, Check-admits, Agrees, Agrees-where-reached, Sheet-facts};
 
+pub mod admit;
 mod judge;
 mod method_peak;
 pub mod pending;
+mod worklist;
 
 /// Check numbers exactly the places that are reached.
 pub fn numbers_reached() -> u8
