@@ -17,3 +17,5 @@ pub mod Tally
 pub mod Verified
 pub mod Steps
 pub mod Walking
+pub mod Gifts
+pub mod Rounds

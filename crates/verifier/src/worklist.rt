@@ -8,8 +8,8 @@ ghost use Rattle.ring.specs.Ring.{items, capacity};
 ghost use Rattle.format.specs.Layout.{methods};
 ghost use Rattle.verifier.specs.Ready.{Ready};
 ghost use Rattle.verifier.specs.Verdicts.{Place};
-ghost use Rattle.verifier.specs.Numbering.{blank, number};
-ghost use Rattle.verifier.specs.Worklist.{Work, pend-if, turn, turns-left, Closed-to};
+ghost use Rattle.verifier.specs.Numbering.{blank, blanks, number};
+ghost use Rattle.verifier.specs.Worklist.{Work, pend-if, turn, turns-left, Closed-to, Complete};
 use crate::judge::BLANK;
 use crate::judge::entry_at;
 use crate::judge::result_at;
@@ -17,6 +17,7 @@ use crate::pending::Pending;
 use bytecode::flow::successors;
 use bytecode::places::code_range;
 use bytecode::successors::Successors;
+use format::layout::method_count;
 use ring::Ring;
 
 /// Numbers a place before `end` that is still blank, and lets it wait.
@@ -67,5 +68,53 @@ fn go_on(
             give(sheet, line, end, target, depth);
             give(sheet, line, end, next, depth);
         }
+    }
+}
+
+/// Numbers what the start of method `k` reaches.
+fn number_method(
+    file: &[u8],
+    returns_value: &[bool; 256],
+    k: usize,
+    sheet: &mut [u16],
+    line: &mut Ring<Pending>,
+)
+    requires ready { ⌜ Ready (now file) (now «returns_value») ⌝ }
+    requires method { ⌜ k < methods (now file) ⌝ }
+    requires closed { ⌜ Closed-to (now file) k (now sheet) ⌝ }
+    requires empty { ⌜ items (now line) ≡ [] ⌝ }
+    requires room { ⌜ length (now file) ≤ capacity (now line) ⌝ }
+    ensures closed { λ _. ⌜ Closed-to (now (file .entry)) (k + 1) (now (sheet .exit)) ⌝ }
+    ensures empty { λ _. ⌜ items (now (line .exit)) ≡ [] ⌝ }
+    ensures same { λ _. ⌜ capacity (now (line .exit)) ≡ capacity (now (line .entry)) ⌝ }
+{
+    let start = code_range(file, k).start;
+    sheet[start] = 0;
+    let Ok(()) = line.push(Pending {
+        place: start as u16,
+        number: 0,
+    }) else {
+        unreachable()
+    };
+    while let Some(waited) = line.pop() {
+        go_on(file, returns_value, k, sheet, line, waited);
+    }
+}
+
+/// Numbers what the methods' starts reach, in a sheet that is blank. The memory has as many entries as the file has bytes, or more.
+pub(crate) fn number_methods(
+    file: &[u8],
+    returns_value: &[bool; 256],
+    sheet: &mut [u16],
+    memory: &mut [Pending],
+)
+    requires ready { ⌜ Ready (now file) (now «returns_value») ⌝ }
+    requires blank { ⌜ now sheet ≡ blanks (now file) ⌝ }
+    requires room { ⌜ length (now file) ≤ length (now memory) ⌝ }
+    ensures { λ _. ⌜ Complete (now (file .entry)) (now (sheet .exit)) ⌝ }
+{
+    let mut line = Ring::new(memory);
+    for k in 0..method_count(file) as usize {
+        number_method(file, returns_value, k, sheet, &mut line);
     }
 }
