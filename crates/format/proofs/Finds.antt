@@ -7,7 +7,7 @@ use Prim.Native.Nat.{ℕ, zero, suc, _+_, _≤_, _<_}
 use native.Mathlib.Omega.{arith}
 use Rattle.std.specs.declared.option.Option.{Option}
 use Rattle.std.specs.declared.option.Option.the-variants.{Some, None}
-use Rattle.std.specs.Options.{mapped}
+use Rattle.std.specs.Options.{mapped, isSome}
 use Rattle.std.proofs.shelf.Tests.{both-ways, cases-eq, cases-order}
 use Rattle.format.specs.Search.{from, upto, first, any, all, _else_, when}
 
@@ -120,6 +120,16 @@ module _ {A : Type 0} where
       go : (b : Bool) → b ≡ true → all t ys ≡ true → cond b (all t ys) false ≡ true
       go true b ih = ih
       go false b ih = absurd (both-ways false refl b)
+
+  -- something passes exactly where the search finds something
+  pub some-first : (t : A → Bool) (xs : List A) → isSome (first t xs) ≡ any t xs
+  unfolding first any
+  some-first t [] = refl
+  some-first t (y ∷ ys) = go (t y) (some-first t ys)
+    where
+      go : (b : Bool) → isSome (first t ys) ≡ any t ys → isSome (cond b (Some y) (first t ys)) ≡ cond b true (any t ys)
+      go true ih = refl
+      go false ih = ih
 
   -- the first of several answers
   pub else-none : (a b : Option A) → (a else b) ≡ None → (a ≡ None) × (b ≡ None)

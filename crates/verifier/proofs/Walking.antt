@@ -1,11 +1,13 @@
 -- A walk over a method's places stands at a place of the method. Assumes nothing.
 use mathlib.Core.Path.{_≡_, refl, sym, ap, subst, _∙_}
 use mathlib.Core.List.{List, List·Memᴰ·head, List·Memᴰ·tail}
+use mathlib.Core.Bool.{Bool, true, false, cond}
 use Prim.Native.Nat.{ℕ, _<_, _≤_}
+use native.Mathlib.Omega.{arith}
 use Rattle.std.specs.Iters.{folded}
 use Rattle.format.proofs.Finds.{In}
-use Rattle.bytecode.specs.Places.{places}
-use Rattle.bytecode.proofs.Walks.{after, left, left-more, left-none}
+use Rattle.bytecode.specs.Places.{places, next, whole}
+use Rattle.bytecode.proofs.Walks.{after, left, whole-ends, left-more, left-none}
 
 module _ (f : List ℕ) (e p : ℕ) (l : p < e) where
   pub left-here : In p (left f e p)
@@ -17,6 +19,14 @@ module _ (f : List ℕ) (e p : ℕ) (l : p < e) where
   -- what is left after a step was left before it
   pub stays-in : (k q : ℕ) → ((x : ℕ) → In x (left f e p) → In x (places f k)) → q ≡ after f e p → (x : ℕ) → In x (left f e q) → In x (places f k)
   stays-in k q h s x m = h x (left-later x (subst (λ z. In x (left f e z)) s m))
+
+-- a step stays before the end
+pub after-le : (f : List ℕ) (e p : ℕ) → after f e p ≤ e
+after-le f e p = go (whole f e p) refl
+  where
+    go : (b : Bool) → whole f e p ≡ b → cond b (next f p) e ≤ e
+    go true w = whole-ends f e p w .1
+    go false w = omega arith
 
 -- a fold of the places, as a walk goes
 module _ {B : Type 0} (f : List ℕ) (e : ℕ) (t : B → ℕ → B) (p : ℕ) (b r : B) (h : folded t b (left f e p) ≡ r) where

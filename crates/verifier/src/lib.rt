@@ -3,6 +3,8 @@ ghost use Rattle.verifier.specs.Cases.{Worked-cases};
 ghost use Rattle.verifier.specs.Verdicts.{Numbers-reached, Numbers-counted, Exact-refusal-17, Place-of-refusal-17, No-sheet-whatever, Check-admits, Agrees, Agrees-where-reached, Sheet-facts};
 
 pub mod admit;
+pub mod check;
+mod fill;
 mod judge;
 mod method_peak;
 pub mod pending;
