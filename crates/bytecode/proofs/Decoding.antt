@@ -6,7 +6,7 @@ use Prim.Native.Nat.{ℕ, _+_, _-_, _≤_}
 use native.Mathlib.Omega.{arith}
 use lib.Dec.{eqb, leb}
 use lib.ListN.{length, take, drop}
-use Rattle.std.specs.Options.{isSome, Cases}
+use Rattle.std.specs.Options.{isSome, mapped, Cases}
 use Rattle.std.specs.declared.option.Option.{Option}
 use Rattle.std.specs.declared.option.Option.the-variants.{Some, None}
 use Rattle.std.proofs.shelf.Lists.{take-rest, getD-drop, length-drop}
@@ -111,3 +111,9 @@ module _ (f : List ℕ) (p : ℕ) where
     where
       unlisted : (n m : ℕ) → n ≤ 4 → 4 ≤ m → not (eqb n 0) && leb n m ≡ false → n ≡ 0
       unlisted n m s l e = grind (arith, tells)
+
+-- the same of an answer that the code gives
+pub says-at : {X : Type 0} (f : List ℕ) (p : ℕ) (see : X → Instruction) (o : Option X) → p + 4 ≤ length f → mapped see o ≡ decode (drop p f) →
+    Cases o (length-of (byte f p) ≡ 0) (λ x. Encodes f p (see x))
+says-at f p see (Some x) l e = encodes-at f p (see x) (sym e)
+says-at f p see None l e = unlisted-at f p l (sym e)

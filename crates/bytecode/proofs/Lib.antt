@@ -4,3 +4,4 @@ pub mod Walks
 pub mod Accepted
 pub mod Filled
 pub mod Points
+pub mod Coded

@@ -55,13 +55,22 @@ pub fn decode(bytes: &[u8]) -> Option<(Instruction, &[u8])>
     }
 }
 
+/// The instruction at `place` of the file and the bytes after it, if its opcode is known: four bytes stand there.
+fn decode_at(file: &[u8], place: usize) -> Option<(Instruction, &[u8])>
+    requires { ⌜ place + 4 ≤ length (now file) ⌝ }
+    ensures is { λ r. ⌜ mapped (λ x. x .0) r ≡ decode (drop place (now (file .entry))) ⌝ }
+    ensures at { λ r. ⌜ BySome r (length-of (byte (now (file .entry)) place) ≡ 0) (λ x. Encodes (now (file .entry)) place (x .0)) ⌝ }
+{
+    decode(&file[place..])
+}
+
 /// The instruction at `place` of the file, if its opcode is known. Only for the crates above: four bytes of the file stand there.
 pub fn instruction_at(file: &[u8], place: usize) -> Option<Instruction>
     requires { ⌜ place + 4 ≤ length (now file) ⌝ }
     ensures is { λ r. ⌜ r ≡ decode (drop place (now (file .entry))) ⌝ }
     ensures at { λ r. ⌜ BySome r (length-of (byte (now (file .entry)) place) ≡ 0) (λ i. Encodes (now (file .entry)) place i) ⌝ }
 {
-    match decode(&file[place..]) {
+    match decode_at(file, place) {
         Some((instruction, _)) => Some(instruction),
         None => None,
     }

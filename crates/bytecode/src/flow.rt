@@ -11,6 +11,7 @@ ghost use Rattle.bytecode.specs.Places.{holds, takes, leaves, successors};
 ghost use Rattle.bytecode.specs.Flow.{successor-list};
 use crate::decode::instruction_at;
 use crate::instruction::Instruction;
+use crate::opcodes::IRETURN;
 use crate::opcodes::leaves;
 use crate::opcodes::length;
 use crate::opcodes::takes;
@@ -18,8 +19,6 @@ use crate::places::holds;
 use crate::successors::Successors;
 use format::layout::method_count;
 use format::layout::method_entry;
-
-const IRETURN: u8 = 0xAC;
 
 /// Where a jump at `place` leads by its distance; 0, which is no place, if it leads below the file.
 pub fn target(place: usize, distance: u16) -> usize

@@ -4,6 +4,11 @@ ghost use Prim.Native.Nat.{ℕ, _<_};
 ghost use lib.ListN.{getD};
 ghost use Rattle.bytecode.specs.Opcodes.{length-of, takes-of, leaves-of};
 
+/// The opcodes of the two kinds of return: with a value, and without one.
+pub(crate) const IRETURN: u8 = 0xAC;
+
+pub(crate) const RETURN: u8 = 0xB1;
+
 /// How many bytes the instruction of an opcode has; 0 for an unlisted opcode. A row has sixteen opcodes.
 #[rattlefmt::skip]
 const LENGTHS: [u8; 256] = [

@@ -3,7 +3,7 @@ ghost use mathlib.Core.Path.{_≡_};
 ghost use mathlib.Core.Bool.{cond};
 ghost use Prim.Native.Nat.{_+_, _<_, _≤_};
 ghost use lib.ListN.{length};
-ghost use Rattle.format.specs.Layout.{methods, code-address};
+ghost use Rattle.format.specs.Layout.{methods, code-address, code-size};
 ghost use Rattle.format.specs.Parts.{Accepted};
 ghost use Rattle.bytecode.specs.Places.{code-end, whole, next, is-place, holds};
 use crate::opcodes::length;
@@ -17,6 +17,15 @@ pub struct CodeRange {
     pub end: usize,
 }
 
+/// How many bytes the code of method `k` has. Four bytes and more of the file stand after it.
+fn code_size(file: &[u8], k: usize) -> usize
+    requires { ⌜ Accepted (now file) ⌝ ∗ ⌜ k < methods (now file) ⌝ }
+    ensures is { λ r. ⌜ r ≡ code-size (now (file .entry)) k ⌝ }
+    ensures inside { λ r. ⌜ code-address (now (file .entry)) k + r + 4 ≤ length (now (file .entry)) ⌝ ∗ ⌜ length (now (file .entry)) < 65536 ⌝ }
+{
+    debug_head(file, k).code_size as usize
+}
+
 /// The code of method `k`. Only for the crates above: the layout of the file is accepted, and it has this method.
 pub fn code_range(file: &[u8], k: usize) -> CodeRange
     requires { ⌜ Accepted (now file) ⌝ ∗ ⌜ k < methods (now file) ⌝ }
@@ -25,15 +34,14 @@ pub fn code_range(file: &[u8], k: usize) -> CodeRange
     ensures inside { λ r. ⌜ r .end + 4 ≤ length (now (file .entry)) ⌝ ∗ ⌜ length (now (file .entry)) < 65536 ⌝ }
 {
     let start = method_entry(file, k).code as usize;
-    let size = debug_head(file, k).code_size as usize;
     CodeRange {
         start,
-        end: start + size,
+        end: start + code_size(file, k),
     }
 }
 
-/// The place after the instruction at `place`; `end`, if the instruction is unknown or ends past it. Only for the crates above: the place is
-/// before the end, and the end inside the file.
+/// The place after the instruction at `place`; `end`, if the instruction is unknown or ends past it. Only for the crates above: `place` is
+/// in the code that ends at `end`.
 pub fn next_place(file: &[u8], place: usize, end: usize) -> usize
     requires { ⌜ place < end ⌝ ∗ ⌜ end ≤ length (now file) ⌝ ∗ ⌜ end < 65536 ⌝ }
     ensures is { λ r. ⌜ r ≡ cond (whole (now (file .entry)) end place) (next (now (file .entry)) place) end ⌝ }
@@ -68,12 +76,12 @@ pub(crate) fn holds(file: &[u8], k: usize, opcode: u8) -> bool
     ensures { λ r. ⌜ r ≡ holds (now (file .entry)) k opcode ⌝ }
 {
     let code = code_range(file, k);
-    let mut at = code.start;
-    while at < code.end {
-        if file[at] == opcode {
+    let mut place = code.start;
+    while place < code.end {
+        if file[place] == opcode {
             return true;
         }
-        at = next_place(file, at, code.end);
+        place = next_place(file, place, code.end);
     }
     false
 }

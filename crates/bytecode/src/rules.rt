@@ -16,6 +16,8 @@ ghost use Rattle.bytecode.specs.Rules.{bad-index, bad-target, mixed-returns, c
 use crate::decode::instruction_at;
 use crate::flow::target;
 use crate::instruction::Instruction;
+use crate::opcodes::IRETURN;
+use crate::opcodes::RETURN;
 use crate::opcodes::length;
 use crate::place_rule::PlaceRule;
 use crate::places::code_range;
@@ -144,7 +146,7 @@ fn mixed_returns(file: &[u8], k: usize) -> bool
     requires { ⌜ Accepted (now file) ⌝ ∗ ⌜ k < methods (now file) ⌝ }
     ensures { λ r. ⌜ r ≡ mixed-returns (now (file .entry)) k ⌝ }
 {
-    holds(file, k, 0xAC) == holds(file, k, 0xB1)
+    holds(file, k, IRETURN) == holds(file, k, RETURN)
 }
 
 /// Every method has one kind of return.

@@ -7,8 +7,8 @@ use Rattle.bytecode.specs.Places.{holds}
 use Rattle.bytecode.proofs.Walks.{left}
 use Rattle.bytecode.proofs.places.holds.Given as given
 
-abbrev pub Inv-loop-at : given.InvT-loop-at
-Inv-loop-at l = any (λ p. eqb (byte (l .file) p) (l .opcode)) (left (l .file) (l .code .end) (l .at)) ≡ holds (l .file) (l .k) (l .opcode)
+abbrev pub Inv-loop-place : given.InvT-loop-place
+Inv-loop-place l = any (λ p. eqb (byte (l .file) p) (l .opcode)) (left (l .file) (l .code .end) (l .place)) ≡ holds (l .file) (l .k) (l .opcode)
 
-abbrev pub μ-loop-at : given.MeasureT-loop-at
-μ-loop-at l = l .code .end - l .at
+abbrev pub μ-loop-place : given.MeasureT-loop-place
+μ-loop-place l = l .code .end - l .place
