@@ -1,7 +1,26 @@
 //! Tests of the label and the recorder.
+ghost use mathlib.Core.List.{[]};
+ghost use mathlib.Core.Path.{_≡_};
+ghost use Prim.Native.Nat.{_<_, _≤_};
+ghost use lib.ListN.{length, take};
+ghost use Rattle.host.specs.Recorder.{recorded, units-of};
+use host::echo::echo;
+use host::recorder::Recorder;
+use host::recorder::RecorderHost;
+
+/// Records the first of the keys where there is room for it, through code that knows only what a host means.
+/// The lender knows every byte of the memory afterwards.
+pub fn record_first(memory: &mut [u8], keys: &[u8])
+    ensures room { λ _. ⌜ (5 ≤ length (now (memory .entry)) → now (memory .exit) ≡ recorded (now (memory .entry)) (take 1 (units-of (now (keys .entry))))) ⌝ }
+    ensures short { λ _. ⌜ (length (now (memory .entry)) < 5 → now (memory .exit) ≡ recorded (now (memory .entry)) []) ⌝ }
+{
+    let mut recorder = Recorder::open(memory, keys);
+    let _ = echo(&mut recorder);
+}
 
 #[cfg(test)]
 mod tests {
+    use super::record_first;
     use host::Host;
     use host::NO_ROOM;
     use host::echo::echo;
@@ -75,7 +94,10 @@ mod tests {
         check_eq(recorder.take(), Some(0x0304))?;
         check_eq(recorder.take(), None)?;
         check_eq(echo(&mut recorder), Ok(None))?;
-        check(memory == [1, 0, 2, 1, 2, 9, 9, 9])
+        check(memory == [1, 0, 2, 1, 2, 9, 9, 9])?;
+        let mut memory = [9; 6];
+        record_first(&mut memory, &[3, 4, 5, 6]);
+        check(memory == [1, 0, 2, 3, 4, 9])
     }
 
     #[test]
