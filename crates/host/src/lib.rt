@@ -19,15 +19,19 @@ pub const NO_ROOM: Refusal = Refusal {
 
 /// A line of units that wait to be taken, a list of units that were put, and room for more of them.
 pub trait Host {
+    /// The units that wait to be taken, the first one first.
     ghost waiting: { Self → List ℕ };
 
+    /// The units that were put, the first one first.
     ghost written: { Self → List ℕ };
 
+    /// How many more units can be put.
     ghost space: { Self → ℕ };
 
     ghost bounded: { (host : Self) → space host ≤ 65535 };
 
-    /// What a host keeps of its own over any number of calls.
+    /// What a host before some calls and the same host after them have in common, besides the lists and the room:
+    /// so a recorder says what it does to its memory.
     ghost kept: { Self → Self → Type 0 };
 
     ghost kept_refl: { (host : Self) → kept host host };

@@ -109,13 +109,16 @@ numbering f = folded (λ s _. pass f s) (starts f) (points f)
 abbrev pub unnumberable : List ℕ → ℕ → Bool
 unnumberable f k = method-breaks f (numbering f) k
 
+-- what check answers to a file whose layout passes, where there is memory enough
+abbrev pub code-or-numbering-refusal : List ℕ → Option Refusal
+code-or-numbering-refusal f = code-refusal f else refused NoNumbering (mapped (code-address f) (first (unnumberable f) (upto (methods f))))
+
 -- what check answers to a file, a sheet of n entries and pending memory of m
 abbrev pub check-refusal : List ℕ → ℕ → ℕ → Option Refusal
 check-refusal f n m =
     layout-refusal f else
     refused MemoryShort (when (ltb n (length f) || ltb m (length f)) 0) else
-    code-refusal f else
-    refused NoNumbering (mapped (code-address f) (first (unnumberable f) (upto (methods f))))
+    code-or-numbering-refusal f
 
 -- of the methods below n in the sheet s: how many places are numbered, and the largest peak
 abbrev pub count-to : List ℕ → List ℕ → ℕ → ℕ

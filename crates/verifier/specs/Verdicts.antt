@@ -127,3 +127,15 @@ Sheet-facts = (f s : List ℕ) (m : ℕ) →
     ((x : Refusal) → check-refusal f (length s) m ≡ Some x → (13 ≤ number-of (x .rule)) × (number-of (x .rule) ≤ 17) → Blanked f (sheet-after f s m) × Kept-past f s (sheet-after f s m)) ×
     ((x : Refusal) → check-refusal f (length s) m ≡ Some x → number-of (x .rule) ≤ 12 → sheet-after f s m ≡ s) ×
     ((x : Refusal) → check-refusal f (length s) m ≡ Some x → number-of (x .rule) ≤ 17)
+
+-- what holds of check for this file, from the sheet s and pending memory of m entries: its refusal, if any, is o, and it leaves the sheet t
+pub record Check-laws (f s : List ℕ) (m : ℕ) (o : Option Refusal) (t : List ℕ) : Type 0 where
+  -- on acceptance exactly the reached places are numbered, and the sheet is admitted
+  pub reached : o ≡ None → (k p : ℕ) → Place f k p → (numbered (number t p) ≡ true) ↔ Reached f k p
+  pub admitted : o ≡ None → Admitted f t
+  -- on acceptance the sheet holds the depths of the ways, the peaks and blanks
+  pub filled : o ≡ None → Filled f t
+  -- 17 stands at the start of the first method that has no numbering
+  pub first-without : Earlier-pass f (length s) m → (k : ℕ) → k < methods f → (o ≡ Some (record { rule = NoNumbering; place = code-address f k })) ↔ First-without f k
+  -- 17 is answered exactly when every earlier rule passes and no sheet would be admitted
+  pub exact : ((p : ℕ) × (o ≡ Some (record { rule = NoNumbering; place = p }))) ↔ (Earlier-pass f (length s) m × No-sheet f)
