@@ -19,3 +19,4 @@ pub mod Steps
 pub mod Walking
 pub mod Gifts
 pub mod Rounds
+pub mod Checked

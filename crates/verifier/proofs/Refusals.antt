@@ -49,7 +49,7 @@ up-to-else n a b h k x e = go (else-some a b x e)
 up-to : (n : ℕ) (r : Rule) (o : Option ℕ) → number-of r ≤ n → Up-to n (refused r o)
 up-to n r o h x e = let q = ap number-of (refused-rule r o x e) in omega arith
 
-layout-up-to : (f : List ℕ) → Up-to 11 (layout-refusal f)
+pub layout-up-to : (f : List ℕ) → Up-to 11 (layout-refusal f)
 layout-up-to f =
     up-to-else 11 _ _ (up-to 11 FileTooLong (when (ltb 65535 (length f)) 0) (lit≤ tt))
     (up-to-else 11 _ _ (up-to 11 HeaderCut (when (ltb (length f) 13) (length f)) (lit≤ tt))
