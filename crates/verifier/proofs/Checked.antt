@@ -13,6 +13,7 @@ use Rattle.std.specs.declared.option.Option.{Option}
 use Rattle.std.specs.declared.option.Option.the-variants.{Some, None}
 use Rattle.std.specs.declared.result.Result.{Result}
 use Rattle.std.specs.declared.result.Result.the-variants.{Ok, Err}
+use Rattle.std.proofs.shelf.Tests.{cases-lt}
 use Rattle.std.proofs.shelf.Ways.{tells}
 use Rattle.refusals.specs.Refusals.{number-of}
 use Rattle.refusals.specs.declared.Rule.{Rule}
@@ -26,11 +27,11 @@ use Rattle.format.proofs.Finds.{else-skip, else-some, none-when, some-none}
 use Rattle.bytecode.specs.Places.{Point, points}
 use Rattle.bytecode.specs.Rules.{bad-instruction, bad-index, bad-target, mixed-returns}
 use Rattle.verifier.specs.Numbering.{number, numbered, numbering, unnumberable, blanks, with-peaks, code-or-numbering-refusal, check-refusal, sheet-after}
-use Rattle.verifier.specs.Verdicts.{Place, Reached, Check-laws}
+use Rattle.verifier.specs.Verdicts.{Place, Reached, Counts, Kept-past, Check-laws}
 use Rattle.verifier.proofs.Refusals.{none-refused, layout-up-to, accepted-parts}
-use Rattle.verifier.proofs.Numbers.{numbers-reached, accepted-rule}
-use Rattle.verifier.proofs.Sheets.{left-accepted, left-early, left-late, accepted-same, accepted-filled, check-admits}
-use Rattle.verifier.proofs.Exact.{exact-refusal-17, place-of-refusal-17}
+use Rattle.verifier.proofs.Numbers.{numbers-reached, numbers-counted}
+use Rattle.verifier.proofs.Sheets.{left-accepted, left-early, left-late, accepted-same, check-admits, sheet-facts}
+use Rattle.verifier.proofs.Exact.{exact-refusal-17, place-of-refusal-17, no-sheet-whatever}
 
 -- the rules before the code's pass
 pub late : (f : List ℕ) (n m : ℕ) → Accepted f → length f ≤ n → length f ≤ m → check-refusal f n m ≡ code-or-numbering-refusal f
@@ -84,20 +85,36 @@ left-filled f s front m (Ok x) g a b e h =
 left-filled f s front m (Err x) g a b e h =
     ap (λ t. t ++ drop (length f) s) h ∙ sym (left-late f s (check-refusal f (length s) m) x (late f (length s) m g a b ∙ sym e) (late-over f x (sym e)))
 
+-- past the file the sheet is as it was, whatever is answered
+past-kept : (f s : List ℕ) (m : ℕ) → Kept-past f s (sheet-after f s m)
+past-kept f s m = go (check-refusal f (length s) m) refl
+  where
+    go : (o : Option Refusal) → check-refusal f (length s) m ≡ o → Kept-past f s (sheet-after f s m)
+    go None e = sheet-facts f s m .0 e .2
+    go (Some x) e = elim (cases-lt 12 (number-of (x .rule))) [
+      | inl h ↦ let u = sheet-facts f s m .3 x e in sheet-facts f s m .1 x e (omega arith, u) .1
+      | inr h ↦ subst (Kept-past f s) (sym (sheet-facts f s m .2 x e h)) (refl, λ _ _. refl)
+    ]
+
 -- the laws of check for one file
 pub check-laws : (f s : List ℕ) (m : ℕ) → Check-laws f s m (check-refusal f (length s) m) (sheet-after f s m)
 check-laws f s m = record {
-  reached = λ e k p a.
-      let r = accepted-parts f (length s) m e in
-      let same = accepted-same f s (sheet-after f s m) (r .0 .0) (r .0 .1) (left-accepted f s (check-refusal f (length s) m) e) k (a .0) p (a .1) in
-      subst (λ d. (numbered d ≡ true) ↔ Reached f k p) same (numbers-reached f (length s) m e k p a);
+  reached = λ e k p a. subst (λ d. (numbered d ≡ true) ↔ Reached f k p) (same e k p a) (numbers-reached f (length s) m e k p a);
+  counted = λ e k p a d. subst (λ n. ((n ≡ d) × (d ≤ 255)) ↔ Counts f k p d) (same e k p a) (numbers-counted f (length s) m e k p a d);
   admitted = check-admits f s m;
-  filled = λ e.
-      let r = accepted-parts f (length s) m e in
-      accepted-filled f s (sheet-after f s m) (r .0 .0) (r .0 .1) (left-accepted f s (check-refusal f (length s) m) e) (accepted-rule f (length s) m e);
+  filled = λ e. sheet-facts f s m .0 e .0;
+  blanked = λ x e h. let u = sheet-facts f s m .3 x e in sheet-facts f s m .1 x e (omega arith, u) .0;
+  kept = λ x e h. sheet-facts f s m .2 x e h;
+  past = past-kept f s m;
   first-without = λ e. place-of-refusal-17 f (length s) m e .0;
   exact = exact-refusal-17 f (length s) m;
+  none-at-all = λ p e. no-sheet-whatever f (length s) m (p, e);
 }
+  where
+    same : check-refusal f (length s) m ≡ None → (k p : ℕ) → Place f k p → number (numbering f) p ≡ number (sheet-after f s m) p
+    same e k p a =
+        let r = accepted-parts f (length s) m e in
+        accepted-same f s (sheet-after f s m) (r .0 .0) (r .0 .1) (left-accepted f s (check-refusal f (length s) m) e) k (a .0) p (a .1)
 
 pub laws-of : (f s t : List ℕ) (m : ℕ) (o : Option Refusal) → o ≡ check-refusal f (length s) m → t ≡ sheet-after f s m → Check-laws f s m o t
 laws-of f s t m o e h = subst (λ z. Check-laws f s m z t) (sym e) (subst (Check-laws f s m (check-refusal f (length s) m)) (sym h) (check-laws f s m))

@@ -131,12 +131,18 @@ Sheet-facts = (f s : List ℕ) (m : ℕ) →
 
 -- what holds of check for this file, from the sheet s and pending memory of m entries: its refusal, if any, is o, and it leaves the sheet t
 pub record Check-laws (f s : List ℕ) (m : ℕ) (o : Option Refusal) (t : List ℕ) : Type 0 where
-  -- on acceptance exactly the reached places are numbered, and the sheet is admitted
+  -- on acceptance exactly the reached places are numbered, with the depths of the ways there
   pub reached : o ≡ None → (k p : ℕ) → Place f k p → (numbered (number t p) ≡ true) ↔ Reached f k p
+  pub counted : o ≡ None → (k p : ℕ) → Place f k p → (d : ℕ) → ((number t p ≡ d) × (d ≤ 255)) ↔ Counts f k p d
+  -- and the sheet is admitted
   pub admitted : o ≡ None → Admitted f t
-  -- on acceptance the sheet holds the depths of the ways, the peaks and blanks
+  -- what the sheet holds on acceptance, on a refusal of the code and on an earlier one; past the file it is as it was
   pub filled : o ≡ None → Filled f t
+  pub blanked : (x : Refusal) → o ≡ Some x → 12 < number-of (x .rule) → Blanked f t
+  pub kept : (x : Refusal) → o ≡ Some x → number-of (x .rule) ≤ 12 → t ≡ s
+  pub past : Kept-past f s t
   -- 17 stands at the start of the first method that has no numbering
   pub first-without : Earlier-pass f (length s) m → (k : ℕ) → k < methods f → (o ≡ Some (record { rule = NoNumbering; place = code-address f k })) ↔ First-without f k
-  -- 17 is answered exactly when every earlier rule passes and no sheet would be admitted
+  -- 17 is answered exactly when every earlier rule passes and no sheet of sixteen-bit entries would be admitted; and then no list at all would
   pub exact : ((p : ℕ) × (o ≡ Some (record { rule = NoNumbering; place = p }))) ↔ (Earlier-pass f (length s) m × No-sheet f)
+  pub none-at-all : (p : ℕ) → o ≡ Some (record { rule = NoNumbering; place = p }) → (u : List ℕ) → Admitted f u → ⊥

@@ -5,11 +5,11 @@ use native.Mathlib.Omega.{arith}
 use lib.ListN.{length, drop, replicate}
 use borrow.Author.Needs.{needs}
 use Rattle.std.proofs.shelf.Lists.{drop-all}
-use Rattle.std.proofs.shelf.Edits.{fill-none, fill-more}
+use Rattle.std.proofs.shelf.Edits.{fill-more}
 use Rattle.verifier.proofs.fill.blank_all.Needs as need
 
 pub loop-entry-holds : need.loop-entry-holds
-loop-entry-holds c = search (needs, fill-none)
+loop-entry-holds c = search needs
 
 pub loop-entry-again : need.loop-entry-again
 loop-entry-again c = search (needs, fill-more)
