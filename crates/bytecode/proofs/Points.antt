@@ -2,15 +2,15 @@
 use mathlib.Core.Path.{_≡_, refl, sym, ap, _∙_}
 use mathlib.Core.Bool.{Bool, true, false, cond}
 use mathlib.Core.List.{List, [], _∷_, _++_, map}
-use Prim.Native.Nat.{ℕ, zero, suc, _+_, _-_, _<_, _≤_}
+use Prim.Native.Nat.{ℕ, suc, _+_, _-_, _<_, _≤_}
 use native.Mathlib.Numerals.{add-one}
 use native.Mathlib.Omega.{arith}
 use Rattle.std.specs.Options.{mapped}
 use Rattle.std.specs.declared.option.Option.{Option}
 use Rattle.std.specs.declared.option.Option.the-variants.{Some, None}
 use Rattle.format.specs.Layout.{methods}
-use Rattle.format.specs.Search.{first, from, upto, _else_}
-use Rattle.format.proofs.Finds.{first-nil, first-cons, mapped-none}
+use Rattle.format.specs.Search.{first, from, _else_}
+use Rattle.format.proofs.Finds.{first-nil, mapped-none}
 use Rattle.bytecode.specs.Places.{Point, places, points-of, points-from, points}
 
 abbrev pub point : ℕ → ℕ → Point
@@ -48,11 +48,8 @@ left-none : (f : List ℕ) (k : ℕ) → methods f ≤ k → points-left f k ≡
 unfolding points-from from
 left-none f k l = let e : methods f - k ≡ 0 = omega arith in rw e
 
--- what the search knows as it begins, after each method, where it stops, and at the end
+-- what the search knows after each method, where it stops, and at the end
 module _ (f : List ℕ) (t : Point → Bool) where
-  pub points-begin : first t (points-left f 0) ≡ first t (points f)
-  points-begin = let e : methods f - 0 ≡ methods f = omega arith in rw e
-
   more : (k : ℕ) → k < methods f → first t (points-left f k) ≡ (first t (points-of f k) else first t (points-left f (k + 1)))
   more k l = ap (first t) (left-more f k l) ∙ first-append t (points-of f k) (points-left f (k + 1))
 

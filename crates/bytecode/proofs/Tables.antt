@@ -1,7 +1,7 @@
 -- A table that lists what a rule says of the numbers below its length gives, at every number, what the rule says.
 -- Where a table is written out, that it is this list is one computation over all of its entries. Assumes nothing.
-use mathlib.Core.Path.{_≡_, refl, _∙_, ap}
-use mathlib.Core.List.{List, [], _∷_, map}
+use mathlib.Core.Path.{_≡_, _∙_, ap}
+use mathlib.Core.List.{map}
 use Prim.Native.Nat.{ℕ, zero, suc, _+_, _<_}
 use native.Mathlib.Omega.{arith}
 use lib.ListN.{getD}

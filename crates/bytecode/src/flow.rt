@@ -7,8 +7,8 @@ ghost use lib.ListN.{length, getD};
 ghost use Rattle.format.specs.Layout.{byte, methods};
 ghost use Rattle.format.specs.Parts.{Accepted};
 ghost use Rattle.bytecode.specs.Opcodes.{target};
-ghost use Rattle.bytecode.specs.Places.{holds, takes, leaves, successors};
-ghost use Rattle.bytecode.specs.Flow.{successor-list};
+ghost use Rattle.bytecode.specs.Places.{takes, leaves, successors};
+ghost use Rattle.bytecode.specs.Flow.{successor-list, Marked};
 use crate::decode::instruction_at;
 use crate::instruction::Instruction;
 use crate::opcodes::IRETURN;
@@ -20,7 +20,8 @@ use crate::successors::Successors;
 use format::layout::method_count;
 use format::layout::method_entry;
 
-/// Where a jump at `place` leads by its distance; 0, which is no place, if it leads below the file.
+/// Where a jump at `place` leads by its distance; 0, which is no place, if it leads below the file. Only for the crates above: `place` is in
+/// a file whose layout is accepted.
 pub fn target(place: usize, distance: u16) -> usize
     requires { ⌜ place < 65536 ⌝ }
     ensures { λ r. ⌜ r ≡ target place distance ⌝ }
@@ -56,7 +57,7 @@ pub fn successors(file: &[u8], place: usize) -> Successors
 /// Which methods return a value, each by its index. Only for the crates above: the layout of the file is accepted.
 pub fn value_methods(file: &[u8]) -> [bool; 256]
     requires { ⌜ Accepted (now file) ⌝ }
-    ensures inside { λ r. ⌜ ((k : ℕ) → k < methods (now (file .entry)) → getD r k false ≡ holds (now (file .entry)) k 0xAC) ⌝ }
+    ensures inside { λ r. ⌜ Marked (now (file .entry)) r ⌝ }
     ensures outside { λ r. ⌜ ((k : ℕ) → methods (now (file .entry)) ≤ k → getD r k false ≡ false) ⌝ }
 {
     let mut returns_value = [false; 256];
@@ -80,7 +81,9 @@ pub fn takes_at(file: &[u8], place: usize) -> u8
 /// How many working values the instruction at `place` leaves: a call leaves one if the method called returns a value. A call is of
 /// a method that there is, and `returns_value` says which methods return one.
 pub fn leaves_at(file: &[u8], returns_value: &[bool; 256], place: usize) -> u8
-    requires { ⌜ place + 4 ≤ length (now file) ⌝ ∗ ⌜ (byte (now file) place ≡ 0xB6 → byte (now file) (place + 1) < methods (now file)) ⌝ ∗ ⌜ ((k : ℕ) → k < methods (now file) → getD (now «returns_value») k false ≡ holds (now file) k 0xAC) ⌝ }
+    requires room { ⌜ place + 4 ≤ length (now file) ⌝ }
+    requires called { ⌜ (byte (now file) place ≡ 0xB6 → byte (now file) (place + 1) < methods (now file)) ⌝ }
+    requires marked { ⌜ Marked (now file) (now «returns_value») ⌝ }
     ensures { λ r. ⌜ r ≡ leaves (now (file .entry)) place ⌝ }
 {
     match instruction_at(file, place) {
