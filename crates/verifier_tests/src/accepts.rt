@@ -2,6 +2,7 @@
 use crate::files::BLANK;
 use crate::files::accepted;
 use crate::files::file_of;
+use crate::files::file_of_methods;
 use std::test::*;
 
 #[test]
@@ -56,4 +57,14 @@ fn a_method_of_one_byte(rt: LibcRuntime) -> Result<(), Fail> {
     let file = file_of(heap, b"\xB1")?;
     accepted(heap, file.as_slice(), 1, 0)?;
     Ok(())
+}
+
+#[test]
+fn as_many_methods_as_there_can_be(rt: LibcRuntime) -> Result<(), Fail> {
+    let heap = rt.alloc();
+    let code: &[u8] = b"\xB1";
+    let file = file_of_methods(heap, &[code; 255])?;
+    let sheet = accepted(heap, file.as_slice(), 255, 0)?;
+    check_eq(sheet.get(13 + 2540).copied(), Some(0))?;
+    check_eq(sheet.get(2563 + 254).copied(), Some(0))
 }

@@ -27,6 +27,39 @@ pub fn file_of(heap: Global, code: &[u8]) -> Result<Vec<u8>, AllocError> {
     Ok(file)
 }
 
+/// The file of a program A with these methods, each with one piece of code and the name m. The code begins at 13 + 10 times their number.
+pub fn file_of_methods(heap: Global, codes: &[&[u8]]) -> Result<Vec<u8>, AllocError> {
+    let methods = codes.len().min(255) as u8;
+    let tables = 13 + 10 * methods as u16;
+    let mut size: u16 = 0;
+    for code in codes {
+        size = size.wrapping_add(code.len().min(1_000) as u16);
+    }
+    let mut file = Vec::from_slice(heap, b"\x65\x4A\x56\x4D\x10\x02\0\0")?;
+    let name = tables.wrapping_add(size).wrapping_add(5 * methods as u16);
+    file.extend_from_slice(&name.to_be_bytes())?;
+    file.extend_from_slice(&[methods, 0, 0])?;
+    let mut at = tables;
+    let mut block = tables.wrapping_add(size);
+    for code in codes {
+        file.extend_from_slice(b"\0\0")?;
+        file.extend_from_slice(&at.to_be_bytes())?;
+        file.extend_from_slice(b"\0\0\0\0")?;
+        file.extend_from_slice(&block.to_be_bytes())?;
+        at = at.wrapping_add(code.len().min(1_000) as u16);
+        block = block.wrapping_add(5);
+    }
+    for code in codes {
+        file.extend_from_slice(*code)?;
+    }
+    for code in codes {
+        let [high, low] = (code.len().min(1_000) as u16).to_be_bytes();
+        file.extend_from_slice(&[2, high, low, 0, b'm'])?;
+    }
+    file.extend_from_slice(b"\0A")?;
+    Ok(file)
+}
+
 /// A sheet of sevens, two entries longer than the file.
 pub fn sevens(heap: Global, file: &[u8]) -> Result<Vec<u16>, AllocError> {
     let sheet = vec![in heap; 7u16; file.len().saturating_add(2)]?;

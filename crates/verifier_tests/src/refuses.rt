@@ -1,6 +1,7 @@
 //! Refusals of check, each at its place.
 use crate::files::accepted;
 use crate::files::file_of;
+use crate::files::file_of_methods;
 use crate::files::refused;
 use crate::files::sevens;
 use refusals::Refusal;
@@ -98,6 +99,16 @@ fn the_numbering(rt: LibcRuntime) -> Result<(), Fail> {
         Rule::NoNumbering,
         23,
     )
+}
+
+#[test]
+fn a_fall_into_the_next_method(rt: LibcRuntime) -> Result<(), Fail> {
+    let heap = rt.alloc();
+    let main: &[u8] = b"\xB1";
+    let falls: &[u8] = b"\xA7\x00\x04\xB1\x00";
+    let next: &[u8] = b"\xB1";
+    let file = file_of_methods(heap, &[main, falls, next])?;
+    refused(heap, file.as_slice(), Rule::NoNumbering, 44)
 }
 
 /// A file that pushes so many values, and returns.

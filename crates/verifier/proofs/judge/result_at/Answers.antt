@@ -9,7 +9,11 @@ pub leaves-at-requires : need.leaves-at-requires
 leaves-at-requires c κs =
     let f = c .args .file .now in
     let rv = c .args .returns-value .now in
-    (place-room f rv (c .pre .ready) (c .args .k) (c .args .place) (c .pre .at), (call-inside f rv (c .pre .ready) (c .args .k) (c .args .place) (c .pre .at), c .pre .ready .kinds))
+    record {
+      room = place-room f rv (c .pre .ready) (c .args .k) (c .args .place) (c .pre .at);
+      called = call-inside f rv (c .pre .ready) (c .args .k) (c .args .place) (c .pre .at);
+      marked = c .pre .ready .kinds;
+    }
 
 pub returns-then-takes-depth : need.returns-then-takes-depth
 returns-then-takes-depth c = search (needs, too-few)
