@@ -11,11 +11,11 @@ mod tests {
     const LISTED: &str =
         "program A \nmethod 0 m parameters 0 locals 1 code 35 size 3 peak 1\nplace 35 number 0 IN\nplace 36 number 1 OUT\nplace 37 number 0 RETURN\nmethod 1 f parameters 1 locals 2 code 38 size 3 peak 1\nplace 38 number 0 ILOAD 0\nplace 40 number 1 IRETURN\nconstant 0 -5\nmessage 0 \nmessage 1 ~\\u000A\\u005C\\uD83D\\u007F\n";
 
-    /// A jump over one instruction.
+    // A jump over one instruction.
     const SKIPPED: [u8; 35] =
         *b"\x65\x4A\x56\x4D\x10\x02\x00\x00\x00\x21\x01\x00\x00\x00\x00\x00\x17\x00\x00\x00\x00\x00\x1C\xA7\x00\x04\x00\xB1\x02\x00\x05\0m\0A";
 
-    /// It takes a value from an empty operand stack.
+    // It takes a value from an empty operand stack.
     const EMPTY: [u8; 32] =
         *b"\x65\x4A\x56\x4D\x10\x02\x00\x00\x00\x1E\x01\x00\x00\x00\x00\x00\x17\x00\x00\x00\x00\x00\x19\x57\xB1\x02\x00\x02\0m\0A";
 
