@@ -18,10 +18,10 @@ use Rattle.verifier.specs.Numbering.{number, numbered}
 abbrev pub number-text : ℕ → List ℕ
 number-text d = cond (numbered d) (codes "number " ++ decimal d) (codes "blank")
 
--- an instruction; an unknown one, which no accepted file has, is a question mark
+-- an instruction; at every place of an accepted file there is one
 abbrev pub decoded-text : Option Instruction → List ℕ
 decoded-text (Some i) = instruction-text i
-decoded-text None = codes "?"
+decoded-text None = []
 
 -- the line of the place p of the file f, numbered in the sheet s
 abbrev pub place-line : List ℕ → List ℕ → ℕ → List ℕ

@@ -4,9 +4,11 @@ ghost use Prim.Native.Nat.{_+_, _<_, _≤_};
 ghost use lib.ListN.{length, drop};
 ghost use Rattle.std.specs.Of.String.{string-bytes};
 ghost use Rattle.std.specs.Vec.{made};
-ghost use Rattle.format.specs.Layout.{methods, entry};
+ghost use Rattle.std.specs.declared.option.Option.the-variants.{None};
+ghost use Rattle.format.specs.Layout.{byte, methods, entry};
 ghost use Rattle.format.specs.Parts.{Accepted};
-ghost use Rattle.bytecode.specs.Opcodes.{decode};
+ghost use Rattle.bytecode.specs.Opcodes.{length-of, decode};
+ghost use Rattle.bytecode.specs.Rules.{code-refusal};
 ghost use Rattle.verifier.specs.Numbering.{number};
 ghost use Rattle.listing.specs.Code.{number-text, decoded-text, place-line, place-lines};
 use bytecode::decode::instruction_at;
@@ -46,20 +48,22 @@ fn number_text(heap: Global, entry: u16) -> Result<String, AllocError>
     }
 }
 
-/// The instruction at `place`.
+/// The instruction at `place`, which is known.
 fn instruction_text(heap: Global, file: &[u8], place: usize) -> Result<String, AllocError>
-    requires { ⌜ place + 4 ≤ length (now file) ⌝ }
+    requires inside { ⌜ place + 4 ≤ length (now file) ⌝ }
+    requires known { ⌜ 0 < length-of (byte (now file) place) ⌝ }
     ensures { λ r. ⌜ made r (λ s. string-bytes s ≡ decoded-text (decode (drop place (now (file .entry))))) ⌝ }
 {
-    match instruction_at(file, place) {
-        Some(instruction) => text(heap, instruction),
-        None => format!(heap, "?"),
-    }
+    let Some(instruction) = instruction_at(file, place) else {
+        unreachable()
+    };
+    text(heap, instruction)
 }
 
 /// The line of a place.
 fn place_line(heap: Global, file: &[u8], sheet: &[u16], place: usize) -> Result<String, AllocError>
     requires inside { ⌜ place + 4 ≤ length (now file) ⌝ }
+    requires known { ⌜ 0 < length-of (byte (now file) place) ⌝ }
     requires long { ⌜ length (now file) ≤ length (now sheet) ⌝ }
     ensures { λ r. ⌜ made r (λ s. string-bytes s ≡ place-line (now (file .entry)) (now (sheet .entry)) place) ⌝ }
 {
@@ -76,6 +80,7 @@ pub(crate) fn place_lines(
     k: usize,
 ) -> Result<String, AllocError>
     requires layout { ⌜ Accepted (now file) ⌝ }
+    requires code { ⌜ code-refusal (now file) ≡ None ⌝ }
     requires method { ⌜ k < methods (now file) ⌝ }
     requires long { ⌜ length (now file) ≤ length (now sheet) ⌝ }
     ensures { λ r. ⌜ made r (λ s. string-bytes s ≡ place-lines (now (file .entry)) (now (sheet .entry)) k) ⌝ }

@@ -4,8 +4,10 @@ ghost use Prim.Native.Nat.{_<_, _≤_};
 ghost use lib.ListN.{length};
 ghost use Rattle.std.specs.Of.String.{string-bytes};
 ghost use Rattle.std.specs.Vec.{made};
+ghost use Rattle.std.specs.declared.option.Option.the-variants.{None};
 ghost use Rattle.format.specs.Layout.{methods, constants, messages};
 ghost use Rattle.format.specs.Parts.{Accepted};
+ghost use Rattle.bytecode.specs.Rules.{code-refusal};
 ghost use Rattle.listing.specs.Lines.{program-line, name-text, variables-text, code-text, method-line, method-lines, constant-line, message-line, refusal-words, refusal-text};
 use crate::code::peak_at;
 use crate::code::place_lines;
@@ -89,6 +91,7 @@ pub(crate) fn method_and_places(
 ) -> Result<String, AllocError>
     requires reads { ⌜ now (now reader .bytes) ≡ now file ⌝ }
     requires layout { ⌜ Accepted (now file) ⌝ }
+    requires code { ⌜ code-refusal (now file) ≡ None ⌝ }
     requires method { ⌜ index < methods (now file) ⌝ }
     requires long { ⌜ length (now file) ≤ length (now sheet) ⌝ }
     ensures { λ r. ⌜ made r (λ s. string-bytes s ≡ method-lines (now (file .entry)) (now (sheet .entry)) index) ⌝ }

@@ -4,8 +4,10 @@ ghost use Prim.Native.Nat.{_≤_};
 ghost use lib.ListN.{length};
 ghost use Rattle.std.specs.Of.String.{string-bytes};
 ghost use Rattle.std.specs.Vec.{made};
+ghost use Rattle.std.specs.declared.option.Option.the-variants.{None};
 ghost use Rattle.format.specs.Layout.{methods, constants, messages};
 ghost use Rattle.format.specs.Parts.{Accepted};
+ghost use Rattle.bytecode.specs.Rules.{code-refusal};
 ghost use Rattle.listing.specs.Lines.{lines, method-lines, constant-line, message-line, parts-text, listing};
 use crate::lines::constant_line;
 use crate::lines::message_line;
@@ -28,6 +30,7 @@ fn method_lines(
 ) -> Result<String, AllocError>
     requires reads { ⌜ now (now reader .bytes) ≡ now file ⌝ }
     requires layout { ⌜ Accepted (now file) ⌝ }
+    requires code { ⌜ code-refusal (now file) ≡ None ⌝ }
     requires long { ⌜ length (now file) ≤ length (now sheet) ⌝ }
     ensures { λ r. ⌜ made r (λ s. string-bytes s ≡ lines (method-lines (now (file .entry)) (now (sheet .entry))) (methods (now (file .entry)))) ⌝ }
 {
@@ -71,6 +74,7 @@ fn parts_text(
 ) -> Result<String, AllocError>
     requires reads { ⌜ now (now reader .bytes) ≡ now file ⌝ }
     requires layout { ⌜ Accepted (now file) ⌝ }
+    requires code { ⌜ code-refusal (now file) ≡ None ⌝ }
     requires long { ⌜ length (now file) ≤ length (now sheet) ⌝ }
     ensures { λ r. ⌜ made r (λ s. string-bytes s ≡ parts-text (now (file .entry)) (now (sheet .entry))) ⌝ }
 {
@@ -84,6 +88,7 @@ fn parts_text(
 /// The parts of a file whose layout is accepted.
 fn accepted_text(heap: Global, file: &[u8], sheet: &[u16]) -> Result<String, AllocError>
     requires layout { ⌜ Accepted (now file) ⌝ }
+    requires code { ⌜ code-refusal (now file) ≡ None ⌝ }
     requires long { ⌜ length (now file) ≤ length (now sheet) ⌝ }
     ensures { λ r. ⌜ made r (λ s. string-bytes s ≡ parts-text (now (file .entry)) (now (sheet .entry))) ⌝ }
 {

@@ -3,12 +3,13 @@ use lib.ListN.{length}
 use Rattle.std.specs.Of.String.{string-bytes}
 use Rattle.std.proofs.shelf.Results.{made-weaker}
 use Rattle.listing.specs.Lines.{listing}
-use Rattle.listing.proofs.Checked.{accepted, long, listed}
+use Rattle.listing.proofs.Checked.{accepted, coded, long, listed}
 use Rattle.listing.proofs.report.checked_text.Needs as need
 
 pub accepted-text-requires : need.accepted-text-requires
 accepted-text-requires c κs = record {
   layout = accepted (c .args .file .now) (c .args .sheet .now) (c .check .last .sheet) (length (c .args .pending .now)) (c .pre .sheet) (c .pre .pending) (sym (c .in-Ok .ensures tt .refuses)) (c .check .ensures .sheet);
+  code = coded (c .args .file .now) (c .args .sheet .now) (c .check .last .sheet) (length (c .args .pending .now)) (c .pre .sheet) (c .pre .pending) (sym (c .in-Ok .ensures tt .refuses)) (c .check .ensures .sheet);
   long = long (c .args .file .now) (c .args .sheet .now) (c .check .last .sheet) (length (c .args .pending .now)) (c .pre .sheet) (c .pre .pending) (sym (c .in-Ok .ensures tt .refuses)) (c .check .ensures .sheet);
 }
 
