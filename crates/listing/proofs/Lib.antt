@@ -1,2 +1,3 @@
 pub mod Texts
 pub mod Held
+pub mod Checked

@@ -1,3 +1,4 @@
 pub mod Text
 pub mod Meanings
+pub mod Code
 pub mod Lines

@@ -1,5 +1,6 @@
 //! The listing of a program file: its parts, or why it is refused.
 
+mod code;
 mod lines;
 mod meanings;
 pub mod report;

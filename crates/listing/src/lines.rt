@@ -1,11 +1,16 @@
 //! The lines of a listing, each with its line feed.
 ghost use mathlib.Core.Path.{_≡_};
-ghost use Prim.Native.Nat.{_<_};
+ghost use Prim.Native.Nat.{_<_, _≤_};
+ghost use lib.ListN.{length};
 ghost use Rattle.std.specs.Of.String.{string-bytes};
 ghost use Rattle.std.specs.Vec.{made};
+ghost use Rattle.std.specs.declared.option.Option.the-variants.{None};
 ghost use Rattle.format.specs.Layout.{methods, constants, messages};
 ghost use Rattle.format.specs.Parts.{Accepted};
-ghost use Rattle.listing.specs.Lines.{program-line, name-text, variables-text, code-text, method-line, constant-line, message-line, refusal-words, refusal-text};
+ghost use Rattle.bytecode.specs.Rules.{code-refusal};
+ghost use Rattle.listing.specs.Lines.{program-line, name-text, variables-text, code-text, method-line, method-lines, constant-line, message-line, refusal-words, refusal-text};
+use crate::code::peak_at;
+use crate::code::place_lines;
 use crate::meanings::meaning_of;
 use crate::text::shown;
 use format::reader::Reader;
@@ -62,15 +67,38 @@ fn code_text(heap: Global, reader: &Reader, index: usize) -> Result<String, Allo
     format!(heap, "code {place} size {size}")
 }
 
-/// The line of a method: its name, its variables, where its code stands and how long it is.
-pub(crate) fn method_line(heap: Global, reader: &Reader, index: usize) -> Result<String, AllocError>
+/// The line of a method: its name, its variables, where its code stands and how long it is, and its peak.
+fn method_line(heap: Global, reader: &Reader, index: usize, peak: u16) -> Result<String, AllocError>
     requires { ⌜ Accepted (now (now reader .bytes)) ⌝ ∗ ⌜ index < methods (now (now reader .bytes)) ⌝ }
-    ensures { λ r. ⌜ made r (λ s. string-bytes s ≡ method-line (now (now (reader .entry) .bytes)) index) ⌝ }
+    ensures { λ r. ⌜ made r (λ s. string-bytes s ≡ method-line (now (now (reader .entry) .bytes)) index peak) ⌝ }
 {
     let name = name_text(heap, reader, index)?;
     let variables = variables_text(heap, reader, index)?;
     let code = code_text(heap, reader, index)?;
-    format!(heap, "method {index} {name} {variables} {code}\n")
+    format!(
+        heap,
+        "method {index} {name} {variables} {code} peak {peak}\n"
+    )
+}
+
+/// The line of a method, and the lines of its places. The reader is that of the file.
+pub(crate) fn method_and_places(
+    heap: Global,
+    file: &[u8],
+    reader: &Reader,
+    sheet: &[u16],
+    index: usize,
+) -> Result<String, AllocError>
+    requires reads { ⌜ now (now reader .bytes) ≡ now file ⌝ }
+    requires layout { ⌜ Accepted (now file) ⌝ }
+    requires code { ⌜ code-refusal (now file) ≡ None ⌝ }
+    requires method { ⌜ index < methods (now file) ⌝ }
+    requires long { ⌜ length (now file) ≤ length (now sheet) ⌝ }
+    ensures { λ r. ⌜ made r (λ s. string-bytes s ≡ method-lines (now (file .entry)) (now (sheet .entry)) index) ⌝ }
+{
+    let method = method_line(heap, reader, index, peak_at(file, sheet, index))?;
+    let places = place_lines(heap, file, sheet, index)?;
+    format!(heap, "{method}{places}")
 }
 
 /// The line of a constant, a signed number.
