@@ -1,4 +1,4 @@
-//! Lists the parts of a program file, or says why it is refused.
+//! Lists the parts and the instructions of a program file, or says why it is refused.
 use listing::report::listing;
 use std::alloc::Global;
 use std::env;

@@ -1,4 +1,4 @@
-//! The listing of a program file: its parts, or why it is refused.
+//! The listing of a program file: its parts and its instructions, or why it is refused.
 
 mod code;
 mod lines;
