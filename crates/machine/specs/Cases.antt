@@ -1,0 +1,65 @@
+-- Worked cases of runs, computed in one statement. Assumes nothing.
+use mathlib.Core.Path.{_≡_}
+use mathlib.Core.List.{List, [], _∷_}
+use Prim.Native.Nat.{ℕ}
+use lib.ListN.{length, replicate}
+use Rattle.std.specs.declared.option.Option.{Option}
+use Rattle.std.specs.declared.option.Option.the-variants.{Some, None}
+use Rattle.verifier.specs.Numbering.{sheet-after}
+use Rattle.verifier.specs.Cases.{file, echo}
+use Rattle.machine.specs.declared.stop.Stop.{Stop}
+use Rattle.machine.specs.declared.stop.Stop.the-variants.{Ended, Spent, NoUnit, NoRoom, StackFull}
+use Rattle.machine.specs.declared.stop.End.the-variants as ending
+use Rattle.machine.specs.Text.{text}
+use Rattle.machine.specs.Machine.{main}
+use Rattle.machine.specs.Go.{start, outcome}
+use Rattle.machine.specs.Cells.{cells-of}
+
+-- the first program, byte by byte: in, out, return
+abbrev pub first-file : List ℕ
+first-file =
+    0x65 ∷ 0x4A ∷ 0x56 ∷ 0x4D ∷ 0x10 ∷ 0x02 ∷ 0x00 ∷ 0x00 ∷ 0x00 ∷ 0x25 ∷ 0x01 ∷ 0x00 ∷ 0x00 ∷
+    0x00 ∷ 0x00 ∷ 0x00 ∷ 0x17 ∷ 0x00 ∷ 0x00 ∷ 0x00 ∷ 0x00 ∷ 0x00 ∷ 0x1A ∷
+    0xF0 ∷ 0xF1 ∷ 0xB1 ∷
+    0x08 ∷ 0x00 ∷ 0x03 ∷ 0x00 ∷ 0x6D ∷ 0x00 ∷ 0x61 ∷ 0x00 ∷ 0x69 ∷ 0x00 ∷ 0x6E ∷ 0x00 ∷ 0x41 ∷ []
+
+-- main calls itself without end
+abbrev pub calls-itself : List ℕ
+calls-itself = file (0xB6 ∷ 0x00 ∷ 0xB1 ∷ [])
+
+-- an addition that wraps, a branch below 0, and a halt
+abbrev pub halts : List ℕ
+halts = file (0x10 ∷ 0x7F ∷ 0xFF ∷ 0x59 ∷ 0x60 ∷ 0x9B ∷ 0x00 ∷ 0x04 ∷ 0xB1 ∷ 0xFF ∷ [])
+
+-- the sheet that check leaves
+abbrev pub sheet : List ℕ → List ℕ
+sheet f = sheet-after f (replicate (length f) 7) (length f)
+
+-- stop, count and written units of the first go on a new run with check's sheet, where these units wait and this many can be put
+abbrev pub first-go : List ℕ → ℕ → ℕ → List ℕ → ℕ → Stop × ℕ × List ℕ
+first-go f cells fuel us room =
+    let g = outcome f (sheet f) cells fuel (start f (sheet f) cells) (record { waits = us; written = []; space = room }) in
+    (g .stop, g .counted, g .host .written)
+
+abbrev pub Worked-cases : Type 0
+Worked-cases =
+    (echo ≡ first-file) ×
+    -- it runs on 4 cells; on 3 it never begins, and is stack full
+    (start first-file (sheet first-file) 4 ≡ Some (main first-file)) ×
+    (cells-of (main first-file) ≡ 0 ∷ 65535 ∷ 65535 ∷ []) ×
+    (first-go first-file 4 10 (0x41 ∷ []) 96 ≡ (Ended ending.Plain, 3, 0x41 ∷ [])) ×
+    (start first-file (sheet first-file) 3 ≡ None) ×
+    (first-go first-file 3 1 [] 96 ≡ (StackFull, 0, [])) ×
+    -- nothing waits; no fuel; too little fuel; no room
+    (first-go first-file 4 10 [] 96 ≡ (NoUnit, 0, [])) ×
+    (first-go first-file 4 0 [] 96 ≡ (Spent, 0, [])) ×
+    (first-go first-file 4 2 (0x41 ∷ []) 96 ≡ (Spent, 2, 0x41 ∷ [])) ×
+    (first-go first-file 4 10 (0x41 ∷ []) 0 ≡ (NoRoom, 1, [])) ×
+    -- calls without end
+    (first-go calls-itself 10 100 [] 96 ≡ (StackFull, 2, [])) ×
+    -- 32,767 doubled is below 0
+    (first-go halts 5 100 [] 96 ≡ (Ended ending.Halt, 5, [])) ×
+    -- numbers and levels: -5 is written as it is, 3,505 as 350, and -5 as 0
+    (text 1 65531 ≡ 0x2D ∷ 0x35 ∷ []) ×
+    (text 2 3505 ≡ 0x33 ∷ 0x35 ∷ 0x30 ∷ []) ×
+    (text 2 65531 ≡ 0x30 ∷ [])

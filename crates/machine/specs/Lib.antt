@@ -1,0 +1,5 @@
+pub mod Text
+pub mod Machine
+pub mod Go
+pub mod Cells
+pub mod Cases
