@@ -1,6 +1,7 @@
 //! The plain machine: what a run of a program does, instruction by instruction, and what a go on it answers.
 ghost use Rattle.machine.specs.Cases.{Worked-cases};
 
+pub mod laws;
 pub mod stop;
 
 /// Worked cases, computed.

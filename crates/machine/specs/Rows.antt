@@ -1,0 +1,76 @@
+-- Rows: any succession of go calls on one new run, with what happens to its host between them. Assumes nothing.
+use mathlib.Core.Path.{_≡_}
+use mathlib.Core.Bool.{true, false}
+use mathlib.Core.List.{List, [], _∷_, _++_}
+use Prim.Native.Nat.{ℕ, _+_, _≤_, _<_}
+use lib.ListN.{length, drop}
+use Rattle.std.specs.declared.option.Option.{Option}
+use Rattle.std.specs.declared.option.Option.the-variants.{Some, None}
+use Rattle.format.specs.Layout.{parameters}
+use Rattle.verifier.specs.Numbering.{number, Admitted}
+use Rattle.machine.specs.Machine.{Frame, State, machine-after, astray, advances}
+use Rattle.machine.specs.Go.{Host, outcome, begins, start}
+
+-- what happens in a row: a go with its fuel, a unit that arrives, another room
+pub data Event : Type 0 where
+  slice : ℕ → Event
+  arrives : ℕ → Event
+  room-set : ℕ → Event
+
+-- the cells, the run on them, its host, and the sum of the counts so far
+pub record Row : Type 0 where
+  pub cells : ℕ
+  pub run : Option State
+  pub host : Host
+  pub sum : ℕ
+
+-- a host at which units arrive, and one with another room
+abbrev pub with-units : Host → List ℕ → Host
+with-units h us = record { waits = h .waits ++ us; written = h .written; space = h .space }
+
+abbrev pub with-room : Host → ℕ → Host
+with-room h m = record { waits = h .waits; written = h .written; space = m }
+
+abbrev pub apply-event : List ℕ → List ℕ → Row → Event → Row
+apply-event f s r (slice n) =
+    let g = outcome f s (r .cells) n (r .run) (r .host) in
+    record { cells = r .cells; run = g .run; host = g .host; sum = r .sum + g .counted }
+apply-event f s r (arrives u) = record { cells = r .cells; run = r .run; host = with-units (r .host) (u ∷ []); sum = r .sum }
+apply-event f s r (room-set m) = record { cells = r .cells; run = r .run; host = with-room (r .host) m; sum = r .sum }
+
+abbrev pub row : List ℕ → List ℕ → Row → List Event → Row
+row f s r [] = r
+row f s r (e ∷ es) = row f s (apply-event f s r e) es
+
+abbrev pub new : List ℕ → List ℕ → ℕ → Host → Row
+new f s cells h = record { cells = cells; run = start f s cells; host = h; sum = 0 }
+
+abbrev pub arrivals : List Event → List ℕ
+arrivals [] = []
+arrivals (slice n ∷ es) = arrivals es
+arrivals (arrives u ∷ es) = u ∷ arrivals es
+arrivals (room-set m ∷ es) = arrivals es
+
+-- a row's list of units: those that wait at its start, then those that arrive
+abbrev pub row-units : Host → List Event → List ℕ
+row-units h es = h .waits ++ arrivals es
+
+-- what a row wrote
+abbrev pub wrote : Host → Row → List ℕ
+wrote h r = drop (length (h .written)) (r .host .written)
+
+-- each frame that waits: its call, at p, stands two bytes before the return place of the frame above, and its operands
+-- and the parameters taken from them are together as many as the number there
+abbrev pub Waits : List ℕ → List ℕ → Frame → List Frame → Type 0
+Waits f s above [] = Unit {0}
+Waits f s above (c ∷ cs) =
+    ((p : ℕ) × (above .return-place ≡ p + 2) × (length (c .operands) + parameters f (above .method) ≡ number s p)) × Waits f s c cs
+
+-- the running frame holds as many operands as the sheet's number for its place
+abbrev pub Level : List ℕ → List ℕ → State → Type 0
+Level f s st = (length (st .running .operands) ≡ number s (st .place)) × Waits f s (st .running) (st .waiting)
+
+-- the plain machine keeps the sheet's numbers and is not astray, after any number of instructions, fed any units
+abbrev pub Keeps-level : Type 0
+Keeps-level = (f s : List ℕ) → Admitted f s → (n : ℕ) (us : List ℕ) →
+    Level f s (machine-after f s n us .state) × (astray f s (machine-after f s n us) ≡ false)
