@@ -48,7 +48,7 @@ next-text f st = cond (eqb (byte f (st .place)) 0xF1) (text (st .mode) (getD (st
 -- why a go stops before its next instruction, when it has done j of them and stands at x: the first reason that holds
 abbrev pub stop-at : List ℕ → List ℕ → ℕ → ℕ → ℕ → ℕ → Fed → Option Stop
 stop-at f s cells room fuel j x =
-    mapped (λ e. Ended e) (x .state .ended) else
+    mapped Ended (x .state .ended) else
     when (eqb j fuel) Spent else
     when (awaits-input f x) NoUnit else
     when (ltb room (length (x .wrote) + length (next-text f (x .state)))) NoRoom else

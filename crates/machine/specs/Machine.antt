@@ -106,6 +106,9 @@ module _ (f : List ℕ) (x : Fed) where
   take-unit w [] = None
   take-unit w (u ∷ us) = Some (fed (continue-at s (with-operands r (u ∷ w)) (next f (s .place))) us (x .wrote))
 
+  abbrev pub set-mode : ℕ → Option Fed
+  set-mode m = Some (fed (record { running = r; waiting = s .waiting; place = next f (s .place); mode = m; ended = s .ended }) (x .feed) (x .wrote))
+
   -- one instruction on these operands; none says that they are too few or that an index lies outside its table
   abbrev pub execute : Instruction → List ℕ → Option Fed
   execute Nop w = proceed w
@@ -151,8 +154,7 @@ module _ (f : List ℕ) (x : Fed) where
   execute Out [] = None
   execute Out (v ∷ w) = put (text (s .mode) v) w
   execute (Err i) w = cond (ltb i (messages f)) (end (ending.Error i)) None
-  execute (Setout i) w =
-      cond (ltb i 3) (Some (fed (record { running = r; waiting = s .waiting; place = next f (s .place); mode = i; ended = s .ended }) (x .feed) (x .wrote))) None
+  execute (Setout i) w = cond (ltb i 3) (set-mode i) None
   execute Halt w = end ending.Halt
 
 abbrev pub none-left : List ℕ → Bool

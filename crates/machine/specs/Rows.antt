@@ -8,6 +8,7 @@ use Rattle.std.specs.declared.option.Option.{Option}
 use Rattle.std.specs.declared.option.Option.the-variants.{Some, None}
 use Rattle.format.specs.Layout.{parameters}
 use Rattle.verifier.specs.Numbering.{number, Admitted}
+use Rattle.machine.specs.declared.stop.Stop.the-variants.{NoUnit}
 use Rattle.machine.specs.Machine.{Frame, State, machine-after, astray, advances}
 use Rattle.machine.specs.Go.{Host, outcome, begins, start}
 
@@ -74,3 +75,60 @@ Level f s st = (length (st .running .operands) ≡ number s (st .place)) × Wait
 abbrev pub Keeps-level : Type 0
 Keeps-level = (f s : List ℕ) → Admitted f s → (n : ℕ) (us : List ℕ) →
     Level f s (machine-after f s n us .state) × (astray f s (machine-after f s n us) ≡ false)
+
+-- a row of an admitted file whose main frame fits is where the plain machine is after as many instructions as its counts
+-- add up to, fed the row's units, and wrote what that wrote
+abbrev pub Follows : Type 0
+Follows = (f s : List ℕ) → Admitted f s → (cells : ℕ) → begins f s cells ≡ true → (h : Host) (es : List Event) →
+    let r = row f s (new f s cells h) es in
+    let m = machine-after f s (r .sum) (row-units h es) in
+    (r .run ≡ Some (m .state)) × (r .host .written ≡ h .written ++ m .wrote)
+
+-- in such a row the sheet's numbers are kept at the start and after each instruction done, inside a go too, and the machine
+-- is never astray; each instruction counted is one that the plain machine does; and the row ends where the last leaves it
+abbrev pub Rows-keep-level : Type 0
+Rows-keep-level = (f s : List ℕ) → Admitted f s → (cells : ℕ) → begins f s cells ≡ true → (h : Host) (es : List Event) →
+    let r = row f s (new f s cells h) es in
+    ((j : ℕ) → j ≤ r .sum → Level f s (machine-after f s j (row-units h es) .state) × (astray f s (machine-after f s j (row-units h es)) ≡ false)) ×
+    ((j : ℕ) → j < r .sum → advances f s (machine-after f s j (row-units h es)) ≡ true) ×
+    (r .run ≡ Some (machine-after f s (r .sum) (row-units h es) .state))
+
+-- a row whose main frame does not fit has no state, counts nothing and writes nothing
+abbrev pub Never-begins : Type 0
+Never-begins = (f s : List ℕ) (cells : ℕ) → begins f s cells ≡ false → (h : Host) (es : List Event) →
+    let r = row f s (new f s cells h) es in
+    (r .run ≡ None) × (r .sum ≡ 0) × (r .host .written ≡ h .written)
+
+-- two rows of one file, each with an admitted sheet of its own on which main's frame fits: equal sums and equal units give
+-- equal states and equal written units
+abbrev pub Same-units : Type 0
+Same-units = (f s s′ : List ℕ) → Admitted f s → Admitted f s′ →
+    (cells cells′ : ℕ) → begins f s cells ≡ true → begins f s′ cells′ ≡ true →
+    (h h′ : Host) (es es′ : List Event) →
+    let r = row f s (new f s cells h) es in
+    let r′ = row f s′ (new f s′ cells′ h′) es′ in
+    r .sum ≡ r′ .sum → row-units h es ≡ row-units h′ es′ →
+    (r .run ≡ r′ .run) × (wrote h r ≡ wrote h′ r′)
+
+-- one row's units begin the other's and its sum is no larger: its written units begin the other's, begun or not
+abbrev pub First-units : Type 0
+First-units = (f s : List ℕ) (cells cells′ : ℕ) (h h′ : Host) (es es′ : List Event) →
+    let r = row f s (new f s cells h) es in
+    let r′ = row f s (new f s cells′ h′) es′ in
+    r .sum ≤ r′ .sum → (us : List ℕ) → row-units h′ es′ ≡ row-units h es ++ us →
+    (vs : List ℕ) × (wrote h′ r′ ≡ wrote h r ++ vs)
+
+-- one go or two with the same fuel in all: the same run, host and count; and the same stop, unless the second had no fuel
+abbrev pub Regroups : Type 0
+Regroups = (f s : List ℕ) (cells p q : ℕ) (run : Option State) (h : Host) →
+    let g = outcome f s cells p run h in
+    let g′ = outcome f s cells q (g .run) (g .host) in
+    let w = outcome f s cells (p + q) run h in
+    (w .run ≡ g′ .run) × (w .host ≡ g′ .host) × (w .counted ≡ g .counted + g′ .counted) × (1 ≤ q → w .stop ≡ g′ .stop)
+
+-- units that arrive after a go may as well arrive before it, unless it stopped for want of them
+abbrev pub Early-units : Type 0
+Early-units = (f s : List ℕ) (cells fuel : ℕ) (run : Option State) (h : Host) (us : List ℕ) →
+    let g = outcome f s cells fuel run h in
+    (g .stop ≡ NoUnit → ⊥) →
+    outcome f s cells fuel run (with-units h us) ≡ record { run = g .run; host = with-units (g .host) us; stop = g .stop; counted = g .counted }
