@@ -80,11 +80,11 @@ waits : (f s : List ℕ) (r : Frame) (ws : List Frame) → Stack f s (r .method)
 waits f s r [] st = tt
 waits f s r (c ∷ cs) st =
     let k = st .0 in
-    ((k .site, k .return-place, k .level), waits f s c cs (st .1))
+    ((k .site, k .return-place, (in-is-place f (c .method) (k .site) (k .stands), sym (k .calls), k .callee), k .level), waits f s c cs (st .1))
 
 pub keeps-level : Keeps-level
 keeps-level f s a n us =
     let x : Fed = machine-after f s n us in
     let good = good-from f s a in
     let h = sure-after f s good n (fed (main f) us []) (sure-main f s good) in
-    ((h .level, waits f s (x .state .running) (x .state .waiting) (h .stack)), stepped f s good x h (idle f x) refl .1)
+    ((in-is-place f (x .state .running .method) (x .state .place) (h .stands), h .level, waits f s (x .state .running) (x .state .waiting) (h .stack)), stepped f s good x h (idle f x) refl .1)

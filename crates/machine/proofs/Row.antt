@@ -98,10 +98,12 @@ module _ (f s : List ℕ) (x : Fed) (h : Host) where
 
 -- a run that never began stays so
 stays : (f s : List ℕ) (es : List Event) (c : ℕ) (g : Host) (n : ℕ) →
-    let r = row f s (unbegun c g n) es in (r .run ≡ None) × (r .sum ≡ n) × (r .host .written ≡ g .written)
-stays f s [] c g n = (refl, refl, refl)
-stays f s (slice k ∷ es) c g n = let i = stays f s es c g (n + 0) in (i .0, i .1 ∙ add-zero n, i .2)
-stays f s (arrives u ∷ es) c g n = stays f s es c (with-units g (u ∷ [])) n
+    let r = row f s (unbegun c g n) es in (r .run ≡ None) × (r .sum ≡ n) × (r .host .written ≡ g .written) × (r .host .waits ≡ g .waits ++ arrivals es)
+stays f s [] c g n = (refl, refl, refl, sym (append-nil (g .waits)))
+stays f s (slice k ∷ es) c g n = let i = stays f s es c g (n + 0) in (i .0, i .1 ∙ add-zero n, i .2, i .3)
+stays f s (arrives u ∷ es) c g n =
+    let i = stays f s es c (with-units g (u ∷ [])) n in
+    (i .0, i .1, i .2, i .3 ∙ append-assoc (g .waits) (u ∷ []) (arrivals es))
 stays f s (room-set m ∷ es) c g n = stays f s es c (with-room g m) n
 
 new-as : (f s : List ℕ) (cells : ℕ) (h : Host) (b : Bool) → begins f s cells ≡ b →
@@ -110,7 +112,7 @@ new-as f s cells h b e = ap (λ (b : Bool). let r : Row = record { cells = cells
 
 pub Never-begins-holds : Never-begins
 Never-begins-holds f s cells e h es =
-    subst (λ (r : Row). (row f s r es .run ≡ None) × (row f s r es .sum ≡ 0) × (row f s r es .host .written ≡ h .written))
+    subst (λ (r : Row). (row f s r es .run ≡ None) × (row f s r es .sum ≡ 0) × (row f s r es .host .written ≡ h .written) × (row f s r es .host .waits ≡ row-units h es))
     (sym (new-as f s cells h false e)) (stays f s es cells h 0)
 
 -- with no rule on the file or its sheet
@@ -131,9 +133,6 @@ follows f s cells e h es =
       b .beside .written ∙ ap (λ (y : Fed). h .written ++ y .wrote) (sym (b .beside .here)),
     )
 
-pub Follows-holds : Follows
-Follows-holds f s a cells e h es = follows f s cells e h es
-
 -- and what waits at the host is what the plain machine is still to be fed
 pub follows-waits : (f s : List ℕ) (cells : ℕ) → begins f s cells ≡ true → (h : Host) (es : List Event) →
     let r = row f s (new f s cells h) es in
@@ -142,6 +141,11 @@ follows-waits f s cells e h es =
     let b = ends f s cells e h es in
     let r = row f s (new f s cells h) es in
     sym (ap (λ (y : Fed). y .feed) (b .beside .here) ∙ append-nil (r .host .waits))
+
+pub Follows-holds : Follows
+Follows-holds f s a cells e h es =
+    let m = follows f s cells e h es in
+    (m .0, m .1, follows-waits f s cells e h es)
 
 -- what a row wrote, begun or not
 pub wrote-is : (f s : List ℕ) (cells : ℕ) (h : Host) (es : List Event) →

@@ -6,7 +6,8 @@ use Prim.Native.Nat.{ℕ, _+_, _≤_, _<_}
 use lib.ListN.{length, drop}
 use Rattle.std.specs.declared.option.Option.{Option}
 use Rattle.std.specs.declared.option.Option.the-variants.{Some, None}
-use Rattle.format.specs.Layout.{parameters}
+use Rattle.format.specs.Layout.{byte, parameters}
+use Rattle.bytecode.specs.Places.{is-place}
 use Rattle.verifier.specs.Numbering.{number, Admitted}
 use Rattle.machine.specs.declared.stop.Stop.the-variants.{NoUnit}
 use Rattle.machine.specs.Machine.{Frame, State, machine-after, astray, advances}
@@ -60,16 +61,24 @@ row-units h es = h .waits ++ arrivals es
 abbrev pub wrote : Host → Row → List ℕ
 wrote h r = drop (length (h .written)) (r .host .written)
 
--- each frame that waits: its call, at p, stands two bytes before the return place of the frame above, and its operands
--- and the parameters taken from them are together as many as the number there
+-- at p, a place of the frame's method, stands a call of method k
+abbrev pub Calls : List ℕ → Frame → ℕ → ℕ → Type 0
+Calls f c p k = (is-place f (c .method) p ≡ true) × (byte f p ≡ 0xB6) × (byte f (p + 1) ≡ k)
+
+-- each frame that waits: its call of the method above, at p, stands two bytes before the return place of the frame above,
+-- and its operands and the parameters taken from them are together as many as the number there
 abbrev pub Waits : List ℕ → List ℕ → Frame → List Frame → Type 0
 Waits f s above [] = Unit {0}
 Waits f s above (c ∷ cs) =
-    ((p : ℕ) × (above .return-place ≡ p + 2) × (length (c .operands) + parameters f (above .method) ≡ number s p)) × Waits f s c cs
+    ((p : ℕ) × (above .return-place ≡ p + 2) × Calls f c p (above .method) × (length (c .operands) + parameters f (above .method) ≡ number s p)) ×
+    Waits f s c cs
 
--- the running frame holds as many operands as the sheet's number for its place
+-- the running frame stands at a place of its method, and holds as many operands as the sheet's number for that place
 abbrev pub Level : List ℕ → List ℕ → State → Type 0
-Level f s st = (length (st .running .operands) ≡ number s (st .place)) × Waits f s (st .running) (st .waiting)
+Level f s st =
+    (is-place f (st .running .method) (st .place) ≡ true) ×
+    (length (st .running .operands) ≡ number s (st .place)) ×
+    Waits f s (st .running) (st .waiting)
 
 -- the plain machine keeps the sheet's numbers and is not astray, after any number of instructions, fed any units
 abbrev pub Keeps-level : Type 0
@@ -77,12 +86,12 @@ Keeps-level = (f s : List ℕ) → Admitted f s → (n : ℕ) (us : List ℕ) �
     Level f s (machine-after f s n us .state) × (astray f s (machine-after f s n us) ≡ false)
 
 -- a row of an admitted file whose main frame fits is where the plain machine is after as many instructions as its counts
--- add up to, fed the row's units, and wrote what that wrote
+-- add up to, fed the row's units; it wrote what that wrote, and what waits is what that is still to be fed
 abbrev pub Follows : Type 0
 Follows = (f s : List ℕ) → Admitted f s → (cells : ℕ) → begins f s cells ≡ true → (h : Host) (es : List Event) →
     let r = row f s (new f s cells h) es in
     let m = machine-after f s (r .sum) (row-units h es) in
-    (r .run ≡ Some (m .state)) × (r .host .written ≡ h .written ++ m .wrote)
+    (r .run ≡ Some (m .state)) × (r .host .written ≡ h .written ++ m .wrote) × (r .host .waits ≡ m .feed)
 
 -- in such a row the sheet's numbers are kept at the start and after each instruction done, inside a go too, and the machine
 -- is never astray; each instruction counted is one that the plain machine does; and the row ends where the last leaves it
@@ -93,11 +102,11 @@ Rows-keep-level = (f s : List ℕ) → Admitted f s → (cells : ℕ) → begins
     ((j : ℕ) → j < r .sum → advances f s (machine-after f s j (row-units h es)) ≡ true) ×
     (r .run ≡ Some (machine-after f s (r .sum) (row-units h es) .state))
 
--- a row whose main frame does not fit has no state, counts nothing and writes nothing
+-- a row whose main frame does not fit has no state, counts nothing, writes nothing and takes nothing
 abbrev pub Never-begins : Type 0
 Never-begins = (f s : List ℕ) (cells : ℕ) → begins f s cells ≡ false → (h : Host) (es : List Event) →
     let r = row f s (new f s cells h) es in
-    (r .run ≡ None) × (r .sum ≡ 0) × (r .host .written ≡ h .written)
+    (r .run ≡ None) × (r .sum ≡ 0) × (r .host .written ≡ h .written) × (r .host .waits ≡ row-units h es)
 
 -- two rows of one file, each with an admitted sheet of its own on which main's frame fits: equal sums and equal units give
 -- equal states and equal written units
