@@ -8,7 +8,7 @@ use lib.Dec.{eqb, ltb, leb}
 use lib.ListN.{length, set, drop, length-append, length-take, length-drop, length-set, length-replicate, length-reverse}
 use Rattle.std.specs.declared.option.Option.{Option}
 use Rattle.std.specs.declared.option.Option.the-variants.{Some, None}
-use Rattle.std.proofs.shelf.Tests.{eqb-true, eq-eqb, leb-false, ltb-false, both-ways, lt-ltb, le-leb, and-parts, and-from, or-parts, not-true}
+use Rattle.std.proofs.shelf.Tests.{eq-eqb, leb-false, ltb-false, both-ways, lt-ltb, le-leb, and-parts, and-from, or-parts, not-true}
 use Rattle.format.specs.Layout.{byte, be16, methods, constants, messages, parameters, locals, code-address}
 use Rattle.format.specs.Parts.{Accepted}
 use Rattle.format.proofs.Finds.{some-any}
@@ -16,7 +16,7 @@ use Rattle.bytecode.specs.declared.instruction.Instruction.{Instruction}
 use Rattle.bytecode.specs.declared.instruction.Instruction.the-variants.{Nop, Wide, Bipush, Ldc, Iload, Istore, Pop, Dup, Swap, Iadd, Isub, Iand, Ior, Iinc, Ifeq, Iflt, IfIcmpeq, Goto, Ireturn, Return, Invokevirtual, In, Out, Err, Setout, Halt}
 use Rattle.bytecode.specs.Opcodes.{decode, length-of, target}
 use Rattle.bytecode.specs.Encoding.{Encodes}
-use Rattle.bytecode.specs.Places.{places, code-end, is, holds, takes, leaves, next, successors, jump-target, whole}
+use Rattle.bytecode.specs.Places.{places, code-end, is, holds, takes, leaves, next, successors, jump-target}
 use Rattle.bytecode.proofs.Decoding.{encodes-at, unlisted-at}
 use Rattle.bytecode.proofs.Coded.{place-room}
 use Rattle.verifier.specs.Numbering.{number, result, Admitted}
@@ -26,7 +26,7 @@ use Rattle.verifier.proofs.Verified.{Verified, verified}
 use Rattle.machine.specs.declared.stop.End.{End}
 use Rattle.machine.specs.declared.stop.End.the-variants as ending
 use Rattle.machine.specs.Text.{negative}
-use Rattle.machine.specs.Machine.{Frame, State, Fed, fed, none-left, execute, end, return-to, call, take-unit, awaits-input}
+use Rattle.machine.specs.Machine.{Frame, State, Fed, none-left, execute, return-to, call, take-unit, awaits-input}
 use Rattle.machine.proofs.Opcodes.{takes-as, leaves-as, successors-as, takes-is, leaves-is, successors-are, next-is}
 
 -- an admitted file with its sheet

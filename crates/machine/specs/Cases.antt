@@ -3,7 +3,6 @@ use mathlib.Core.Path.{_≡_}
 use mathlib.Core.List.{List, [], _∷_}
 use Prim.Native.Nat.{ℕ}
 use lib.ListN.{length, replicate}
-use Rattle.std.specs.declared.option.Option.{Option}
 use Rattle.std.specs.declared.option.Option.the-variants.{Some, None}
 use Rattle.verifier.specs.Numbering.{sheet-after}
 use Rattle.verifier.specs.Cases.{file, echo}
@@ -11,7 +10,7 @@ use Rattle.machine.specs.declared.stop.Stop.{Stop}
 use Rattle.machine.specs.declared.stop.Stop.the-variants.{Ended, Spent, NoUnit, NoRoom, StackFull}
 use Rattle.machine.specs.declared.stop.End.the-variants as ending
 use Rattle.machine.specs.Text.{text}
-use Rattle.machine.specs.Machine.{main}
+use Rattle.machine.specs.Machine.{main, machine-after}
 use Rattle.machine.specs.Go.{start, outcome}
 use Rattle.machine.specs.Cells.{cells-of}
 
@@ -30,6 +29,24 @@ calls-itself = file (0xB6 ∷ 0x00 ∷ 0xB1 ∷ [])
 -- an addition that wraps, a branch below 0, and a halt
 abbrev pub halts : List ℕ
 halts = file (0x10 ∷ 0x7F ∷ 0xFF ∷ 0x59 ∷ 0x60 ∷ 0x9B ∷ 0x00 ∷ 0x04 ∷ 0xB1 ∷ 0xFF ∷ [])
+
+-- main returns 42
+abbrev pub answers : List ℕ
+answers = file (0x10 ∷ 0x00 ∷ 0x2A ∷ 0xAC ∷ [])
+
+-- every other instruction: main keeps 5 in a local, calls method 1 with it and the constant 3, writes what that returns as a number,
+-- and jumps over three instructions to an error
+abbrev pub calls-method : List ℕ
+calls-method =
+    0x65 ∷ 0x4A ∷ 0x56 ∷ 0x4D ∷ 0x10 ∷ 0x02 ∷ 0x00 ∷ 0x00 ∷ 0x00 ∷ 0x6E ∷ 0x02 ∷ 0x01 ∷ 0x01 ∷
+    0x00 ∷ 0x00 ∷ 0x00 ∷ 0x23 ∷ 0x00 ∷ 0x01 ∷ 0x00 ∷ 0x00 ∷ 0x00 ∷ 0x60 ∷
+    0x00 ∷ 0x00 ∷ 0x00 ∷ 0x4C ∷ 0x02 ∷ 0x01 ∷ 0x00 ∷ 0x00 ∷ 0x00 ∷ 0x65 ∷
+    0x00 ∷ 0x03 ∷
+    0x10 ∷ 0x00 ∷ 0x07 ∷ 0x36 ∷ 0x00 ∷ 0x84 ∷ 0x00 ∷ 0xFF ∷ 0xFE ∷ 0x15 ∷ 0x00 ∷ 0x12 ∷ 0x00 ∷ 0xB6 ∷ 0x01 ∷ 0xFA ∷ 0x01 ∷ 0xF1 ∷ 0x00 ∷ 0xC4 ∷ 0x10 ∷ 0x00 ∷ 0x00 ∷ 0x99 ∷ 0x00 ∷ 0x04 ∷ 0xFF ∷ 0x10 ∷ 0x00 ∷ 0x01 ∷ 0x59 ∷ 0x9F ∷ 0x00 ∷ 0x04 ∷ 0xFF ∷ 0xA7 ∷ 0x00 ∷ 0x04 ∷ 0xB1 ∷ 0xF2 ∷ 0x00 ∷
+    0x15 ∷ 0x00 ∷ 0x15 ∷ 0x01 ∷ 0x64 ∷ 0x59 ∷ 0x57 ∷ 0x15 ∷ 0x02 ∷ 0x80 ∷ 0x10 ∷ 0x00 ∷ 0x06 ∷ 0x7E ∷ 0x10 ∷ 0x00 ∷ 0x09 ∷ 0x5F ∷ 0x64 ∷ 0xAC ∷
+    0x02 ∷ 0x00 ∷ 0x29 ∷ 0x00 ∷ 0x6D ∷ 0x02 ∷ 0x00 ∷ 0x14 ∷ 0x00 ∷ 0x73 ∷
+    0x00 ∷ 0x02 ∷ 0x00 ∷ 0x45 ∷
+    0x00 ∷ 0x41 ∷ []
 
 -- the sheet that check leaves
 abbrev pub sheet : List ℕ → List ℕ
@@ -59,7 +76,15 @@ Worked-cases =
     (first-go calls-itself 10 100 [] 96 ≡ (StackFull, 2, [])) ×
     -- 32,767 doubled is below 0
     (first-go halts 5 100 [] 96 ≡ (Ended ending.Halt, 5, [])) ×
-    -- numbers and levels: -5 is written as it is, 3,505 as 350, and -5 as 0
+    (first-go answers 4 100 [] 96 ≡ (Ended (ending.Value 42), 2, [])) ×
+    -- in the called method the parameters stand in the order of pushing, then a local, and the caller's base is 0
+    (cells-of (machine-after calls-method (sheet calls-method) 6 [] .state) ≡
+    0 ∷ 65535 ∷ 65535 ∷ 5 ∷ 1 ∷ 50 ∷ 0 ∷ 5 ∷ 3 ∷ 0 ∷ []) ×
+    (first-go calls-method 12 100 [] 96 ≡ (Ended (ending.Error 0), 30, 0x37 ∷ [])) ×
+    (first-go calls-method 11 100 [] 96 ≡ (StackFull, 5, [])) ×
+    -- numbers as they are: -5, -32,768, 0; levels: 3,505 is written as 350, and -5 as 0
     (text 1 65531 ≡ 0x2D ∷ 0x35 ∷ []) ×
+    (text 1 32768 ≡ 0x2D ∷ 0x33 ∷ 0x32 ∷ 0x37 ∷ 0x36 ∷ 0x38 ∷ []) ×
+    (text 1 0 ≡ 0x30 ∷ []) ×
     (text 2 3505 ≡ 0x33 ∷ 0x35 ∷ 0x30 ∷ []) ×
     (text 2 65531 ≡ 0x30 ∷ [])

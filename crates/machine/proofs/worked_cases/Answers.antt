@@ -7,4 +7,4 @@ use Rattle.machine.proofs.worked_cases.Needs as need
 
 pub returns : need.returns
 unfolding from first any all code-due debug-due message-due decoded points-from numbering
-returns c = (refl, refl, refl, refl, refl, refl, refl, refl, refl, refl, refl, refl, refl, refl, refl)
+returns c = (refl, refl, refl, refl, refl, refl, refl, refl, refl, refl, refl, refl, refl, refl, refl, refl, refl, refl, refl, refl, refl)
