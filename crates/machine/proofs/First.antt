@@ -10,6 +10,7 @@ use Rattle.machine.specs.Machine.{Fed, fed, main, awaits-input, idle, executed
 use Rattle.machine.specs.Rows.{row, row-units, new, wrote, First-units}
 use Rattle.machine.proofs.Wide.{wide, step-wide}
 use Rattle.machine.proofs.Writes.{after-grows}
+use Rattle.machine.proofs.SameMachine.{same-fed}
 use Rattle.machine.proofs.Row.{wrote-is}
 
 step-idle : (f s : List ℕ) (x : Fed) → idle f x ≡ true → step f s x ≡ x
@@ -36,11 +37,11 @@ begins-more f s us (suc n) (suc m) x l = go (awaits-input f x) refl (begins-more
     go false e ih = (ih .0, ap (λ (y : Fed). after f s m y .wrote) (step-wide f s [] us x e) ∙ ih .1)
 
 pub First-units-holds : First-units
-First-units-holds f s cells cells′ h h′ es es′ l us u =
+First-units-holds f s s′ a a′ cells cells′ h h′ es es′ l us u =
     let r = row f s (new f s cells h) es in
-    let r′ = row f s (new f s cells′ h′) es′ in
+    let r′ = row f s′ (new f s′ cells′ h′) es′ in
     let b = begins-more f s us (r .sum) (r′ .sum) (fed (main f) (row-units h es) []) l in (
       b .0,
-      wrote-is f s cells′ h′ es′ ∙ ap (λ (t : List ℕ). machine-after f s (r′ .sum) t .wrote) u ∙ b .1 ∙
-          ap (λ (t : List ℕ). t ++ b .0) (sym (wrote-is f s cells h es)),
+      wrote-is f s′ cells′ h′ es′ ∙ ap (λ (y : Fed). y .wrote) (same-fed f s′ s a′ a (r′ .sum) (row-units h′ es′)) ∙
+          ap (λ (t : List ℕ). machine-after f s (r′ .sum) t .wrote) u ∙ b .1 ∙ ap (λ (t : List ℕ). t ++ b .0) (sym (wrote-is f s cells h es)),
     )

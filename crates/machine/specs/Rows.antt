@@ -119,11 +119,12 @@ Same-units = (f s s′ : List ℕ) → Admitted f s → Admitted f s′ →
     r .sum ≡ r′ .sum → row-units h es ≡ row-units h′ es′ →
     (r .run ≡ r′ .run) × (wrote h r ≡ wrote h′ r′)
 
--- one row's units begin the other's and its sum is no larger: its written units begin the other's, begun or not
+-- two such rows, begun or not, on any cells: where one's units begin the other's and its sum is no larger, its written units
+-- begin the other's
 abbrev pub First-units : Type 0
-First-units = (f s : List ℕ) (cells cells′ : ℕ) (h h′ : Host) (es es′ : List Event) →
+First-units = (f s s′ : List ℕ) → Admitted f s → Admitted f s′ → (cells cells′ : ℕ) (h h′ : Host) (es es′ : List Event) →
     let r = row f s (new f s cells h) es in
-    let r′ = row f s (new f s cells′ h′) es′ in
+    let r′ = row f s′ (new f s′ cells′ h′) es′ in
     r .sum ≤ r′ .sum → (us : List ℕ) → row-units h′ es′ ≡ row-units h es ++ us →
     (vs : List ℕ) × (wrote h′ r′ ≡ wrote h r ++ vs)
 
