@@ -1,0 +1,11 @@
+pub mod Opcodes
+pub mod Invariant
+pub mod Level
+pub mod Wide
+pub mod Writes
+pub mod Counts
+pub mod SameMachine
+pub mod Row
+pub mod Regroup
+pub mod Early
+pub mod First
