@@ -10,10 +10,10 @@ use verifier::check::check as check_file;
 use verifier::pending::Pending;
 
 /// The blank entry.
-pub const BLANK: u16 = 65_535;
+pub(crate) const BLANK: u16 = 65_535;
 
 /// The file of a program A with one method, main, that has this code of at most 1,000 bytes. It begins at 23.
-pub fn file_of(heap: Global, code: &[u8]) -> Result<Vec<u8>, AllocError> {
+pub(crate) fn file_of(heap: Global, code: &[u8]) -> Result<Vec<u8>, AllocError> {
     let size = code.len().min(1_000) as u16;
     let [name_high, name_low] = (34 + size).to_be_bytes();
     let [block_high, block_low] = (23 + size).to_be_bytes();
@@ -28,7 +28,7 @@ pub fn file_of(heap: Global, code: &[u8]) -> Result<Vec<u8>, AllocError> {
 }
 
 /// The file of a program A with these methods, each with one piece of code and the name m. The code begins at 13 + 10 times their number.
-pub fn file_of_methods(heap: Global, codes: &[&[u8]]) -> Result<Vec<u8>, AllocError> {
+pub(crate) fn file_of_methods(heap: Global, codes: &[&[u8]]) -> Result<Vec<u8>, AllocError> {
     let methods = codes.len().min(255) as u8;
     let tables = 13 + 10 * methods as u16;
     let mut size: u16 = 0;
@@ -61,13 +61,18 @@ pub fn file_of_methods(heap: Global, codes: &[&[u8]]) -> Result<Vec<u8>, AllocEr
 }
 
 /// A sheet of sevens, two entries longer than the file.
-pub fn sevens(heap: Global, file: &[u8]) -> Result<Vec<u16>, AllocError> {
+pub(crate) fn sevens(heap: Global, file: &[u8]) -> Result<Vec<u16>, AllocError> {
     let sheet = vec![in heap; 7u16; file.len().saturating_add(2)]?;
     Ok(sheet)
 }
 
 /// Check accepts the file with this count and peak. Answers the sheet, which was two entries longer than the file.
-pub fn accepted(heap: Global, file: &[u8], count: usize, peak: u16) -> Result<Vec<u16>, Fail> {
+pub(crate) fn accepted(
+    heap: Global,
+    file: &[u8],
+    count: usize,
+    peak: u16,
+) -> Result<Vec<u16>, Fail> {
     let mut sheet = sevens(heap, file)?;
     let mut pending = vec![in heap; Pending {
         place: 0,
@@ -86,7 +91,7 @@ pub fn accepted(heap: Global, file: &[u8], count: usize, peak: u16) -> Result<Ve
 }
 
 /// Check refuses the file by this rule at this place, blanks the sheet as far as the file goes and leaves the two entries past it.
-pub fn refused(heap: Global, file: &[u8], rule: Rule, place: usize) -> Result<(), Fail> {
+pub(crate) fn refused(heap: Global, file: &[u8], rule: Rule, place: usize) -> Result<(), Fail> {
     let mut sheet = sevens(heap, file)?;
     let mut pending = vec![in heap; Pending {
         place: 0,
