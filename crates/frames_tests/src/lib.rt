@@ -1,5 +1,6 @@
 //! Tests of the frames.
 
+#![tactic(auto)]
 #[cfg(test)]
 mod tests {
     use frames::Frames;

@@ -1,4 +1,5 @@
 //! Tests of the label and the recorder.
+#![tactic(auto)]
 ghost use Rattle.std.specs.Prelude.{◌≡◌, ◌<◌, ◌≤◌, [], length, take};
 ghost use Rattle.host.specs.Recorder.{recorded, units_of};
 

@@ -1,5 +1,6 @@
 //! Tests of the listing.
 
+#![tactic(auto)]
 #[cfg(test)]
 mod tests {
     use listing::report::listing;

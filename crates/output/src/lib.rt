@@ -1,4 +1,5 @@
 //! What OUT writes of a value: the units of each output mode, and putting them on a host.
+#![tactic(auto)]
 ghost use Rattle.std.specs.Prelude.{◌≤◌};
 
 mod decimal;

@@ -1,5 +1,6 @@
 //! Tests of what OUT writes.
 
+#![tactic(auto)]
 #[cfg(test)]
 mod tests {
     use host::label::Label;

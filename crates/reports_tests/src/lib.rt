@@ -1,5 +1,6 @@
 //! Tests of the reports.
 
+#![tactic(auto)]
 #[cfg(test)]
 mod tests {
     use machine::stop::{End, Stop};

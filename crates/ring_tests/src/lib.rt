@@ -1,5 +1,6 @@
 //! Tests of the ring buffer.
 
+#![tactic(auto)]
 #[cfg(test)]
 mod tests {
     use ring::Ring;

@@ -1,5 +1,6 @@
 //! Tests of what is told of a run.
 
+#![tactic(auto)]
 #[cfg(test)]
 mod tests {
     use runner::memory::Memory;

@@ -3,6 +3,7 @@
 //! It is a test program, whose lines are held to those that the reference prints of the same cases. So its functions are proved safe,
 //! and that they end, and most of their contracts say no more. The stored form and the line stand at the top of reference/src/cases.rs.
 //! Its cases are those that the reference's `choosecases 2026 20000 2000` writes, and the reference's `vectors` writes the lines.
+#![tactic(auto)]
 mod admission;
 mod digest;
 mod line;
