@@ -1,4 +1,4 @@
-use Rattle.std.proofs.Common.{◌≡◌, is_some, ap, ◌∙◌}
+use Rattle.std.proofs.Common.{is_some, ap, ◌∙◌}
 use Rattle.format.proofs.Finds.{some_first}
 use Rattle.bytecode.specs.Places.{places}
 use Rattle.verifier.specs.Numbering.{breaks}

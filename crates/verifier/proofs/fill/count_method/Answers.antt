@@ -1,4 +1,4 @@
-use Rattle.std.proofs.Common.{◌≡◌, ◌+◌, ◌≤◌, Bool, true, false, cond, sym, subst, arith, rules}
+use Rattle.std.proofs.Common.{◌+◌, ◌≤◌, Bool, true, false, cond, sym, subst, arith, rules}
 use Rattle.verifier.specs.Numbering.{number, numbered}
 use Rattle.verifier.proofs.Walking.{after_le, fold_goes_on, fold_ends}
 use Rattle.verifier.proofs.fill.count_method.Goals as goal

@@ -1,5 +1,5 @@
-use Rattle.std.proofs.Common.{◌≡◌, rules}
-use Rattle.bytecode.proofs.Walks.{left_all, first_goes_on, first_stops, first_ends}
+use Rattle.std.proofs.Common.{rules}
+use Rattle.bytecode.proofs.Walks.{first_goes_on, first_stops, first_ends}
 use Rattle.verifier.specs.Numbering.{breaks}
 use Rattle.verifier.proofs.Walking.{left_here, stays_in}
 use Rattle.verifier.proofs.judge.first_break.Goals as goal

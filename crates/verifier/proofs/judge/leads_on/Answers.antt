@@ -1,4 +1,3 @@
-use Rattle.std.proofs.Common.{rules}
 use Rattle.verifier.proofs.Steps.{place_room, place_short, on_none, on_one, on_two, on_not}
 use Rattle.verifier.proofs.judge.leads_on.Goals as goal
 

@@ -1,11 +1,10 @@
-use Rattle.std.proofs.Common.{◌≡◌, ◌≤◌, [], ◌∷◌, sym, refl, ◌∙◌, subst, arith, rules}
+use Rattle.std.proofs.Common.{refl, ◌∙◌, subst, arith, rules}
 use mathlib.Core.List.Memᴰ
 use Rattle.ring.specs.Ring.{items, capacity}
 use Rattle.format.proofs.Finds.{In}
-use Rattle.bytecode.specs.Places.{successors}
 use Rattle.verifier.proofs.Steps.{place_room, place_short}
 use Rattle.verifier.proofs.Turns.{work}
-use Rattle.verifier.proofs.Gifts.{turn_stays, turn_nowhere, turn_one, turn_two, gift_room, room_again}
+use Rattle.verifier.proofs.Gifts.{turn_stays, turn_one, turn_two, gift_room, room_again}
 use Rattle.verifier.proofs.worklist.go_on.Goals as goal
 
 pub returns-in_default : goal.returns-in_default

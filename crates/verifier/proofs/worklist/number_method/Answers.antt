@@ -1,4 +1,4 @@
-use Rattle.std.proofs.Common.{◌≡◌, ℕ, ◌<◌, ◌≤◌, List, [], ◌∷◌, sym, refl, ap, ◌∙◌, subst, arith}
+use Rattle.std.proofs.Common.{◌≡◌, ◌<◌, ◌≤◌, [], ◌∷◌, sym, refl, ◌∙◌, subst, arith}
 use mathlib.Core.List.Memᴰ
 use Rattle.ring.specs.Ring.{items, capacity}
 use Rattle.verifier.specs.Worklist.{Spreads, turns_left}
