@@ -5,7 +5,7 @@ use Rattle.std.proofs.Common.{to_z}
 use Rattle.std.specs.Fmt.{signed_decimal}
 use Rattle.refusals.specs.declared.Refusal.{Refusal}
 use Rattle.refusals.specs.Refusals.{number_of}
-use Rattle.hex.specs.Hex.{byte_digits, unit_digits}
+use Rattle.hexadecimal.specs.Hex.{byte_digits, unit_digits}
 use Rattle.machine.specs.declared.stop.End.{End}
 use Rattle.machine.specs.declared.stop.End.TheVariants.{Plain, Value, Halt, Error}
 use Rattle.machine.specs.declared.stop.Stop.{Stop}

@@ -9,7 +9,7 @@ fn push_unit(text: &mut String, unit: u16) -> Result<(), AllocError>
     ensures { OnOk result (string_bytes text.new ≡ string_bytes text.old ++ unit_word unit) }
 {
     text.push(' ')?;
-    hex::push_unit(text, unit)
+    hexadecimal::push_unit(text, unit)
 }
 
 /// Adds a byte.
@@ -17,7 +17,7 @@ fn push_byte(text: &mut String, byte: u8) -> Result<(), AllocError>
     ensures { OnOk result (string_bytes text.new ≡ string_bytes text.old ++ byte_word byte) }
 {
     text.push(' ')?;
-    hex::push_byte(text, byte)
+    hexadecimal::push_byte(text, byte)
 }
 
 /// The units in their order.

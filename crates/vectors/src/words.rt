@@ -34,7 +34,7 @@ pub(crate) fn units_word(heap: Global, units: &[u16]) -> Result<String, AllocErr
         text.push('-')?;
     }
     for unit in units {
-        hex::push_unit(&mut text, *unit)?;
+        hexadecimal::push_unit(&mut text, *unit)?;
     }
     Ok(text)
 }

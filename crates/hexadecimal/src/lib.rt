@@ -1,7 +1,8 @@
 //! Numbers in capital hexadecimal digits, added to a text.
 #![tactic(auto)]
+
 ghost use Rattle.std.specs.Prelude.{◌≡◌, ◌<◌, [], ◌∷◌, ◌++◌, string_bytes, OnOk};
-ghost use Rattle.hex.specs.Hex.{hex, byte_digits, unit_digits};
+ghost use Rattle.hexadecimal.specs.Hex.{hex, byte_digits, unit_digits};
 
 use std::alloc::AllocError;
 
