@@ -16,8 +16,8 @@ open-requires c =
     let s = c.args.sheet.now in
     record { plain = main_plain f s c.requires.admitted; room = main_room f s c.requires.admitted _ c.requires.fits }
 
-pub invariant-of-result : goal.invariant-of-result
-invariant-of-result c = (
+pub invariant_of-result : goal.invariant_of-result
+invariant_of-result c = (
   λ _.
       let f = c.args.file.now in
       let s = c.args.sheet.now in

@@ -6,8 +6,8 @@ use Rattle.run.specs.Sound.{program, state_of}
 use Rattle.run.proofs.Steps.{frames_laid, place_small, proceeded}
 use Rattle.run.proofs.interpreter.Interpreter.do_nothing.Goals as goal
 
-pub overflow-add-self : goal.overflow-add-self
-overflow-add-self c = let l = place_small c.args.self.now c.requires.sound in omega arith
+pub overflow_add-self : goal.overflow_add-self
+overflow_add-self c = let l = place_small c.args.self.now c.requires.sound in omega arith
 
 pub returns : goal.returns
 returns c =

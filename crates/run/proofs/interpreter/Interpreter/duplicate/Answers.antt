@@ -26,8 +26,8 @@ push-requires c =
           (twice m c.requires.sound c.requires.here c.last-value.result _ c.last-value.ensures);
     }
 
-pub overflow-add-self : goal.overflow-add-self
-overflow-add-self c = let l = place_small c.args.self.now c.requires.sound in omega arith
+pub overflow_add-self : goal.overflow_add-self
+overflow_add-self c = let l = place_small c.args.self.now c.requires.sound in omega arith
 
 pub returns : goal.returns
 returns c =

@@ -9,11 +9,11 @@ use Rattle.run.proofs.Calling.{enough, room, entered}
 use Rattle.run.proofs.Steps.{frames_laid, place_small}
 use Rattle.run.proofs.interpreter.Interpreter.enter.Goals as goal
 
-pub overflow-add-back : goal.overflow-add-back
-overflow-add-back c = let l = place_small c.args.self.now c.requires.sound in omega arith
+pub overflow_add-back : goal.overflow_add-back
+overflow_add-back c = let l = place_small c.args.self.now c.requires.sound in omega arith
 
-pub overflow-cast-back : goal.overflow-cast-back
-overflow-cast-back c = let l = place_small c.args.self.now c.requires.sound in omega arith
+pub overflow_cast-back : goal.overflow_cast-back
+overflow_cast-back c = let l = place_small c.args.self.now c.requires.sound in omega arith
 
 pub enter-requires : goal.enter-requires
 enter-requires c =

@@ -10,8 +10,8 @@ use Rattle.run.proofs.interpreter.Interpreter.fits.Goals as goal
 pub top-requires : goal.top-requires
 top-requires c = record { laid = frames_laid c.args.self.now c.requires.sound }
 
-pub overflow-sub-base : goal.overflow-sub-base
-overflow-sub-base c = let l = enough_below c.args.self.now c.requires.sound c.args.index c.requires.here in rw (c.method_entry-parameters.ensures, c.top.ensures) l
+pub overflow_sub-base : goal.overflow_sub-base
+overflow_sub-base c = let l = enough_below c.args.self.now c.requires.sound c.args.index c.requires.here in rw (c.method_entry-parameters.ensures, c.top.ensures) l
 
 pub frame_need-requires : goal.frame_need-requires
 frame_need-requires c =

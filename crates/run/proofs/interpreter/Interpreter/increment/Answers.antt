@@ -27,8 +27,8 @@ load-value-requires c = record { laid = frames_laid c.args.self.now c.requires.s
 pub store-requires : goal.store-requires
 store-requires c = record { laid = frames_laid c.args.self.now c.requires.sound; inside = inside c.args.self.now c.requires.sound c.args.index c.args.number c.requires.here }
 
-pub overflow-add-self : goal.overflow-add-self
-overflow-add-self c = let l = place_small c.args.self.now c.requires.sound in omega arith
+pub overflow_add-self : goal.overflow_add-self
+overflow_add-self c = let l = place_small c.args.self.now c.requires.sound in omega arith
 
 pub returns : goal.returns
 returns c =

@@ -32,8 +32,8 @@ push-requires c =
           (pushes m c.requires.sound c.args.index c.load-value.result c.requires.here c.load-value.ensures);
     }
 
-pub overflow-add-self : goal.overflow-add-self
-overflow-add-self c = let l = place_small c.args.self.now c.requires.sound in omega arith
+pub overflow_add-self : goal.overflow_add-self
+overflow_add-self c = let l = place_small c.args.self.now c.requires.sound in omega arith
 
 pub returns : goal.returns
 returns c =

@@ -40,8 +40,8 @@ push-requires c =
           (pushes m c.requires.sound c.args.index c.constant-value.result c.requires.here c.constant-value.ensures);
     }
 
-pub overflow-add-self : goal.overflow-add-self
-overflow-add-self c = let l = place_small c.args.self.now c.requires.sound in omega arith
+pub overflow_add-self : goal.overflow_add-self
+overflow_add-self c = let l = place_small c.args.self.now c.requires.sound in omega arith
 
 pub returns : goal.returns
 returns c =

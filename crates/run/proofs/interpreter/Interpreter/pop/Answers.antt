@@ -9,8 +9,8 @@ use Rattle.run.proofs.interpreter.Interpreter.pop.Goals as goal
 pub pop-requires : goal.pop-requires
 pop-requires c = record { laid = frames_laid c.args.self.now c.requires.sound; some = taken c.args.self.now c.requires.sound Pop c.requires.here }
 
-pub overflow-add-self : goal.overflow-add-self
-overflow-add-self c = let l = place_small c.args.self.now c.requires.sound in omega arith
+pub overflow_add-self : goal.overflow_add-self
+overflow_add-self c = let l = place_small c.args.self.now c.requires.sound in omega arith
 
 pub returns : goal.returns
 returns c =

@@ -14,8 +14,8 @@ push-requires c =
       room = free_cell m c.requires.sound (Bipush c.args.number) c.requires.here refl m.frames c.args.number (kept_refl m.frames) refl refl (λ us vs. refl);
     }
 
-pub overflow-add-self : goal.overflow-add-self
-overflow-add-self c = let l = place_small c.args.self.now c.requires.sound in omega arith
+pub overflow_add-self : goal.overflow_add-self
+overflow_add-self c = let l = place_small c.args.self.now c.requires.sound in omega arith
 
 pub returns : goal.returns
 returns c =

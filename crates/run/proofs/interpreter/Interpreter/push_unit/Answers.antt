@@ -12,8 +12,8 @@ push-requires c =
     let m = c.args.self.now in
     record { laid = frames_laid m c.requires.sound; room = unit_room m c.requires.sound c.requires.here c.args.unit }
 
-pub overflow-add-self : goal.overflow-add-self
-overflow-add-self c = let l = place_small c.args.self.now c.requires.sound in omega arith
+pub overflow_add-self : goal.overflow_add-self
+overflow_add-self c = let l = place_small c.args.self.now c.requires.sound in omega arith
 
 pub returns : goal.returns
 returns c =

@@ -31,8 +31,8 @@ store-requires c =
       inside = subst (λ (r : Frame). c.args.index < length r.variables) (sym t.running) (inside c.args.self.now c.requires.sound c.args.index c.requires.here);
     }
 
-pub overflow-add-self : goal.overflow-add-self
-overflow-add-self c = let l = place_small c.args.self.now c.requires.sound in omega arith
+pub overflow_add-self : goal.overflow_add-self
+overflow_add-self c = let l = place_small c.args.self.now c.requires.sound in omega arith
 
 pub returns : goal.returns
 returns c =

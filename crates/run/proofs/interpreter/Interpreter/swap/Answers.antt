@@ -29,8 +29,8 @@ push-requires-2 c =
           (u.running ∙ over (running c.pop_two-lower.new.frames) (running m.frames) _ _ t.running) (u.waiting ∙ t.waiting) l;
     }
 
-pub overflow-add-self : goal.overflow-add-self
-overflow-add-self c = let l = place_small c.args.self.now c.requires.sound in omega arith
+pub overflow_add-self : goal.overflow_add-self
+overflow_add-self c = let l = place_small c.args.self.now c.requires.sound in omega arith
 
 pub returns : goal.returns
 returns c =
