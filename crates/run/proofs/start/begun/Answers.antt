@@ -17,15 +17,14 @@ open-requires c =
     record { plain = main_plain f s c.requires.admitted; room = main_room f s c.requires.admitted _ c.requires.fits }
 
 pub invariant_of-result : goal.invariant_of-result
-invariant_of-result c = (
-  λ _.
+invariant_of-result c = record {
+  sound = λ _.
       let f = c.args.file.now in
       let s = c.args.sheet.now in
       let u = c.open.ensures in
       main_sound f s c.requires.admitted _ u.file refl (subst (λ (n : ℕ). begins f s n ≡ true) (sym u.size) c.requires.fits) u.laid
-      (same_state u.running u.waiting (ap (λ (e : MethodEntry). e.code) c.method_entry-place.ensures)),
-  tt,
-)
+      (same_state u.running u.waiting (ap (λ (e : MethodEntry). e.code) c.method_entry-place.ensures));
+}
 
 pub returns : goal.returns
 returns c =

@@ -77,7 +77,7 @@ pub halt-requires : goal.halt-requires
 halt-requires c = record { sound = c.requires.sound; here = standing c.args.self.now c.requires.sound 0xFF (sym c.in-255.is ∙ c.requires.here) }
 
 -- no opcode is left
-other : (c : goal.In-default) (i : Instruction) → opcode_of i ≡ c.args.opcode → ⊥
+other : (c : goal.In_default) (i : Instruction) → opcode_of i ≡ c.args.opcode → ⊥
 other c Nop e = search rules
 other c Wide e = search rules
 other c (Bipush k) e = search rules
