@@ -1,10 +1,9 @@
 -- Each part of an accepted file is there just where its index is inside its table. Assumes nothing.
-use Rattle.std.proofs.Common.{◌≡◌, ℕ, zero, suc, ◌+◌, ◌*◌, ◌<◌, ◌≤◌, Bool, true, false, cond, ltb, leb, ◌⊎◌, List, length, is_some, Some, None, Option, sym, refl, ◌∙◌, inl, inr, add-one, arith}
+use Rattle.std.proofs.Common.{◌≡◌, ℕ, zero, suc, ◌+◌, ◌<◌, ◌≤◌, Bool, true, false, cond, ltb, leb, List, length, is_some, Some, None, Option, sym, refl, ◌∙◌, inl, inr, add-one, arith}
 use Rattle.std.specs.Option.{option_map}
 use Rattle.std.proofs.lemmas.Bool.{cases_lt}
 use Rattle.std.proofs.lemmas.Bool.Decides.{nat_tests}
-use Rattle.format.specs.Layout.{methods, constants, messages, constant_address, tables_end, code_due, code_size, code_address, debug_due, debug_address, name_size, message_due, message_size, program_address, program_size, code_more, debug_none}
-use Rattle.format.specs.Sound.{Sound, Method}
+use Rattle.format.specs.Layout.{methods, constants, messages, constant_address, code_due, code_size, code_address, debug_address, name_size, message_due, message_size, program_address, program_size, code_more, debug_none}
 use Rattle.format.specs.Parts.{Accepted, Piece, piece, within, among, program_name, method_name, method_code, constant, message}
 use Rattle.format.proofs.Finds.{some_none}
 use Rattle.format.proofs.Sounds.{sound}

@@ -1,12 +1,11 @@
 -- What each rule of the layout gives of an accepted file. Assumes nothing.
-use Rattle.std.proofs.Common.{◌≡◌, ℕ, ◌<◌, Bool, true, false, not, eqb, ltb, List, length, Some, None, Option, sym, refl, ap, ◌∙◌}
+use Rattle.std.proofs.Common.{◌≡◌, ℕ, ◌<◌, Bool, false, not, eqb, ltb, List, length, None}
 use Rattle.std.specs.Option.{option_map}
 use Rattle.refusals.specs.declared.Rule.{Rule}
 use Rattle.refusals.specs.declared.Rule.TheVariants.{FileTooLong, HeaderCut, WrongMagic, WrongVersion, NoMethod, TablesCut, BadVariables, BadCode, BadDebugBlock, BadMessage, BadProgramName}
-use Rattle.refusals.specs.declared.Refusal.{Refusal}
-use Rattle.format.specs.Search.{first, upto, when, ◌else◌}
+use Rattle.format.specs.Search.{first, upto, when}
 use Rattle.format.specs.Layout.{byte, methods, messages, entry, tables_end, message_due}
-use Rattle.format.specs.Rules.{refused, wrong_magic, bad_variables, bad_code, bad_debug_block, bad_message, bad_program_name, layout_refusal}
+use Rattle.format.specs.Rules.{refused, wrong_magic, bad_variables, bad_code, bad_debug_block, bad_message, bad_program_name}
 use Rattle.format.specs.Parts.{Accepted}
 use Rattle.format.proofs.Finds.{else_none, none_else, mapped_none, none_mapped, when_none, none_when, none_below, below_none}
 

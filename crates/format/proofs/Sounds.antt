@@ -1,14 +1,13 @@
 -- A file is accepted just if its layout is sound. Assumes nothing.
-use Rattle.std.proofs.Common.{◌≡◌, ℕ, ◌+◌, ◌<◌, ◌≤◌, Bool, true, false, List, is_ok, Ok, Err, Decides, Result, sym, refl, arith}
+use Rattle.std.proofs.Common.{◌≡◌, ℕ, ◌+◌, ◌<◌, ◌≤◌, false, List, is_ok, Ok, Err, Decides, Result, sym, refl, arith}
 use Rattle.std.specs.Result.{result_err}
 use Rattle.std.proofs.lemmas.Bool.Decides.{nat_tests}
 use Rattle.refusals.specs.declared.Refusal.{Refusal}
-use Rattle.format.specs.Layout.{methods, messages, parameters, locals, name_size, program_size}
+use Rattle.format.specs.Layout.{methods, parameters, locals, name_size, program_size}
 use Rattle.format.specs.Rules.{no_name, bad_variables, bad_code, bad_debug_block, bad_message, layout_refusal}
 use Rattle.format.specs.Parts.{Accepted}
 use Rattle.format.specs.Sound.{Name, Method, Message, Sound}
 use Rattle.format.proofs.Kept.{Kept, kept, accepted}
-use Rattle.format.proofs.Finds.{some_none}
 
 name_from : (n : ℕ) → no_name n ≡ false → Name n
 name_from n e = record { some = grind (arith, nat_tests); even = grind (arith, nat_tests) }

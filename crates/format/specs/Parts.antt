@@ -1,5 +1,5 @@
 -- The parts of a program file, each with its place. They are defined for every list of bytes: a part that passes the end is not there.
-use Rattle.std.specs.Prelude.{◌≡◌, ℕ, ◌+◌, ◌*◌, Bool, cond, List, length, take, drop, Some, None, Option, nat_le, nat_lt}
+use Rattle.std.specs.Prelude.{◌≡◌, ℕ, ◌+◌, cond, List, length, take, drop, Some, None, Option, nat_le, nat_lt}
 use Rattle.format.specs.declared.part.Part.{Part}
 use Rattle.format.specs.declared.reader.Variables.{Variables}
 use Rattle.format.specs.Layout.{methods, constants, messages, parameters, locals, name_size, code_size, debug_address, code_address, constant_address, message_due, message_size, program_size, program_address}

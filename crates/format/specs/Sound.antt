@@ -1,5 +1,5 @@
 -- What a sound program file is, in plain facts. No search stands in these.
-use Rattle.std.specs.Prelude.{◌≡◌, ℕ, ◌+◌, ◌*◌, ◌%◌, ◌<◌, ◌≤◌, List, length}
+use Rattle.std.specs.Prelude.{◌≡◌, ℕ, ◌+◌, ◌%◌, ◌<◌, ◌≤◌, List, length}
 use Rattle.format.specs.Layout.{byte, methods, messages, tables_end, code_address, parameters, locals, debug_address, name_size, code_size, code_due, debug_due, message_due, message_size, program_size, program_address}
 
 -- the size of a name

@@ -1,5 +1,6 @@
 //! Tests of the label and the recorder.
 #![tactic(auto)]
+
 ghost use Rattle.std.specs.Prelude.{◌≡◌, ◌<◌, ◌≤◌, [], length, take};
 ghost use Rattle.host.specs.Recorder.{recorded, units_of};
 
@@ -46,7 +47,7 @@ mod tests {
     fn label_shows_96_units(rt: HostRuntime) {
         let mut slots = [0; 1];
         let mut label = Label::new(&mut slots);
-        assert!(rt; label.shown() == []);
+        assert!(rt; label.shown() == [].as_slice());
         fill(&rt, &mut label, 96);
         assert_eq!(rt; label.shown().len(), 96);
         assert_eq!(rt; label.shown().get(95), Some(&95));
@@ -64,7 +65,7 @@ mod tests {
         assert_eq!(rt; echo(&mut label), Ok(Some(66)));
         assert_eq!(rt; echo(&mut label), Ok(Some(68)));
         assert_eq!(rt; echo(&mut label), Ok(None));
-        assert!(rt; label.shown() == [65, 66, 68]);
+        assert!(rt; label.shown() == [65, 66, 68].as_slice());
     }
 
     #[test]

@@ -1,6 +1,7 @@
 //! Tests of what OUT writes.
 
 #![tactic(auto)]
+
 #[cfg(test)]
 mod tests {
     use host::label::Label;
@@ -10,7 +11,7 @@ mod tests {
 
     // Mode 0 writes the pattern, mode 1 this number and mode 2 this level.
     fn writes(rt: &impl Abort, value: u16, number: &[u8], level: &[u8]) {
-        assert!(rt; text(0, value).units() == [value]);
+        assert!(rt; text(0, value).units() == [value].as_slice());
         shows(rt, 1, value, number);
         shows(rt, 2, value, level);
         // any other mode writes as mode 2 does

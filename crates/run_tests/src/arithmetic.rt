@@ -2,7 +2,7 @@
 //! Patterns are written in hexadecimal where they pass 32,767: 0x8000 is -32,768 and 0xFFFF is -1.
 use crate::opcodes::*;
 use crate::programs::{Method, Program};
-use std::test::*;
+use std::test::Fail;
 
 /// Two numbers in the order in which they are pushed, the instruction on them, and the value that it leaves.
 const OF_TWO: [(u16, u16, u8, u16); 20] = [
@@ -171,7 +171,7 @@ fn two_numbers(rt: HostRuntime) -> Result<(), Fail> {
         let [a, b] = u.to_be_bytes();
         let [c, d] = v.to_be_bytes();
         let code: [&[u8]; 4] = [&[BIPUSH, a, b], &[BIPUSH, c, d], &[opcode], &[IRETURN]];
-        Program::of_main(rt.alloc(), 0, &code)?.gives(value, 4)?;
+        Program::of_main(rt.alloc(), 0, &code)?.gives(&rt, value, 4)?;
     }
     Ok(())
 }
@@ -179,7 +179,7 @@ fn two_numbers(rt: HostRuntime) -> Result<(), Fail> {
 #[test]
 fn operands_and_variables(rt: HostRuntime) -> Result<(), Fail> {
     for (code, value, count) in OF_MAIN {
-        Program::of_main(rt.alloc(), 2, code)?.gives(value, count)?;
+        Program::of_main(rt.alloc(), 2, code)?.gives(&rt, value, count)?;
     }
     Ok(())
 }
@@ -187,7 +187,7 @@ fn operands_and_variables(rt: HostRuntime) -> Result<(), Fail> {
 #[test]
 fn the_last_of_255_variables(rt: HostRuntime) -> Result<(), Fail> {
     let code: [&[u8]; 4] = [&[BIPUSH, 1, 2], &[ISTORE, 254], &[ILOAD, 254], &[IRETURN]];
-    Program::of_main(rt.alloc(), 255, &code)?.gives(258, 4)
+    Program::of_main(rt.alloc(), 255, &code)?.gives(&rt, 258, 4)
 }
 
 #[test]
@@ -198,7 +198,7 @@ fn constants(rt: HostRuntime) -> Result<(), Fail> {
             locals: 0,
             code: &[&[LDC, index], &[IRETURN]],
         };
-        Program::new(rt.alloc(), &[main], &[0x1234, 0xFEDC, 0x8000], 0)?.gives(value, 2)?;
+        Program::new(rt.alloc(), &[main], &[0x1234, 0xFEDC, 0x8000], 0)?.gives(&rt, value, 2)?;
     }
     let main = Method {
         parameters: 0,
@@ -206,5 +206,5 @@ fn constants(rt: HostRuntime) -> Result<(), Fail> {
         code: &[&[LDC, 1], &[LDC, 0], &[ISUB], &[IRETURN]],
     };
     // 3 - 10 is -7
-    Program::new(rt.alloc(), &[main], &[10, 3], 0)?.gives(0xFFF9, 4)
+    Program::new(rt.alloc(), &[main], &[10, 3], 0)?.gives(&rt, 0xFFF9, 4)
 }

@@ -1,7 +1,7 @@
 //! Calls and returns. Main is method 0; the values and counts are those of the whole program.
 use crate::opcodes::*;
 use crate::programs::{Method, Program};
-use std::test::*;
+use std::test::Fail;
 
 /// Main with so many variables, method 1 with so many parameters and locals, the value that main ends with, and the count.
 struct Pair {
@@ -151,7 +151,7 @@ fn pairs(rt: HostRuntime) -> Result<(), Fail> {
             locals: pair.locals,
             code: pair.callee,
         };
-        Program::of_methods(rt.alloc(), &[main, callee])?.gives(pair.value, pair.count)?;
+        Program::of_methods(rt.alloc(), &[main, callee])?.gives(&rt, pair.value, pair.count)?;
     }
     Ok(())
 }
@@ -182,7 +182,7 @@ fn three_parameters_in_order(rt: HostRuntime) -> Result<(), Fail> {
             locals: 0,
             code,
         };
-        Program::of_methods(rt.alloc(), &[main, callee])?.gives(value, 7)?;
+        Program::of_methods(rt.alloc(), &[main, callee])?.gives(&rt, value, 7)?;
     }
     Ok(())
 }
@@ -207,7 +207,7 @@ fn the_last_of_255_methods(rt: HostRuntime) -> Result<(), Fail> {
     let mut methods = [one; 255];
     methods[0] = main;
     methods[254] = last;
-    Program::of_methods(rt.alloc(), &methods)?.gives(91, 8)
+    Program::of_methods(rt.alloc(), &methods)?.gives(&rt, 91, 8)
 }
 
 // main calls 1, which calls 2 twice: 40 - 4
@@ -235,5 +235,5 @@ fn a_call_in_a_call(rt: HostRuntime) -> Result<(), Fail> {
         locals: 0,
         code: &[&[ILOAD, 0], &[DUP], &[IADD], &[IRETURN]],
     };
-    Program::of_methods(rt.alloc(), &[main, middle, twice])?.gives(36, 16)
+    Program::of_methods(rt.alloc(), &[main, middle, twice])?.gives(&rt, 36, 16)
 }

@@ -3,7 +3,7 @@ use crate::opcodes::*;
 use crate::programs::{Method, Program};
 use host::recorder::Recorder;
 use machine::stop::{End, Stop};
-use std::test::*;
+use std::test::Fail;
 
 /// Main's code and method 1's, the end of the run, and how many instructions it takes.
 const ENDS: [(&[&[u8]], &[&[u8]], End, u32); 10] = [
@@ -68,6 +68,7 @@ fn ends_once(rt: HostRuntime) -> Result<(), Fail> {
         let mut memory = [9; 5];
         let mut host = Recorder::open(&mut memory, &[0, 65]);
         program.makes(
+            &rt,
             &mut cells,
             &mut host,
             &[
@@ -87,15 +88,18 @@ fn ends_once(rt: HostRuntime) -> Result<(), Fail> {
 fn ends_by_slices(rt: HostRuntime) -> Result<(), Fail> {
     let code: [&[u8]; 3] = [&[BIPUSH, 0, 1], &[NOP], &[IRETURN]];
     let ended = Stop::Ended(End::Value(1));
-    Program::of_main(rt.alloc(), 0, &code)?.makes_alone(&[
-        (0, Stop::Spent, 0),
-        (1, Stop::Spent, 1),
-        (0, Stop::Spent, 0),
-        (1, Stop::Spent, 1),
-        (1, ended, 1),
-        (1, ended, 0),
-        (0, ended, 0),
-    ])
+    Program::of_main(rt.alloc(), 0, &code)?.makes_alone(
+        &rt,
+        &[
+            (0, Stop::Spent, 0),
+            (1, Stop::Spent, 1),
+            (0, Stop::Spent, 0),
+            (1, Stop::Spent, 1),
+            (1, ended, 1),
+            (1, ended, 0),
+            (0, ended, 0),
+        ],
+    )
 }
 
 // The last instruction counts: with one less fuel the run goes on.
@@ -104,20 +108,23 @@ fn ends_on_exact_fuel(rt: HostRuntime) -> Result<(), Fail> {
     let code: [&[u8]; 3] = [&[BIPUSH, 0, 1], &[NOP], &[IRETURN]];
     let ended = Stop::Ended(End::Value(1));
     let program = Program::of_main(rt.alloc(), 0, &code)?;
-    program.makes_alone(&[(2, Stop::Spent, 2), (1, ended, 1)])?;
-    program.makes_alone(&[(3, ended, 3)])?;
-    program.makes_alone(&[(4, ended, 3)])?;
-    program.makes_alone(&[(4_294_967_295, ended, 3)])
+    program.makes_alone(&rt, &[(2, Stop::Spent, 2), (1, ended, 1)])?;
+    program.makes_alone(&rt, &[(3, ended, 3)])?;
+    program.makes_alone(&rt, &[(4, ended, 3)])?;
+    program.makes_alone(&rt, &[(4_294_967_295, ended, 3)])
 }
 
 // A jump to itself: as many instructions as there is fuel.
 #[test]
 fn never_ends(rt: HostRuntime) -> Result<(), Fail> {
     let code: [&[u8]; 2] = [&[GOTO, 0, 0], &[RETURN]];
-    Program::of_main(rt.alloc(), 0, &code)?.makes_alone(&[
-        (5, Stop::Spent, 5),
-        (100_000, Stop::Spent, 100_000),
-        (0, Stop::Spent, 0),
-        (1, Stop::Spent, 1),
-    ])
+    Program::of_main(rt.alloc(), 0, &code)?.makes_alone(
+        &rt,
+        &[
+            (5, Stop::Spent, 5),
+            (100_000, Stop::Spent, 100_000),
+            (0, Stop::Spent, 0),
+            (1, Stop::Spent, 1),
+        ],
+    )
 }

@@ -1,7 +1,7 @@
 //! Jumps forward and back. A distance counts from the jump's own opcode; the addresses in the comments count from main's code.
 use crate::opcodes::*;
 use crate::programs::Program;
-use std::test::*;
+use std::test::Fail;
 
 /// A value, a jump on it, and what main ends with: 2 if it jumps, 1 if it does not.
 const ON_ONE: [(u16, u8, u16); 10] = [
@@ -136,7 +136,7 @@ fn on_one_value(rt: HostRuntime) -> Result<(), Fail> {
             &[BIPUSH, 0, 2],
             &[IRETURN],
         ];
-        Program::of_main(rt.alloc(), 0, &code)?.gives(way, 4)?;
+        Program::of_main(rt.alloc(), 0, &code)?.gives(&rt, way, 4)?;
     }
     Ok(())
 }
@@ -156,7 +156,7 @@ fn on_two_values(rt: HostRuntime) -> Result<(), Fail> {
             &[BIPUSH, 0, 2],
             &[IRETURN],
         ];
-        Program::of_main(rt.alloc(), 0, &code)?.gives(way, 5)?;
+        Program::of_main(rt.alloc(), 0, &code)?.gives(&rt, way, 5)?;
     }
     Ok(())
 }
@@ -164,7 +164,7 @@ fn on_two_values(rt: HostRuntime) -> Result<(), Fail> {
 #[test]
 fn ways(rt: HostRuntime) -> Result<(), Fail> {
     for (code, value, count) in WAYS {
-        Program::of_main(rt.alloc(), 2, code)?.gives(value, count)?;
+        Program::of_main(rt.alloc(), 2, code)?.gives(&rt, value, count)?;
     }
     Ok(())
 }

@@ -1,6 +1,7 @@
 //! Tests of runs: what each instruction does, how a go stops, and what the cells hold.
 
 #![tactic(auto)]
+
 #[cfg(test)]
 mod arithmetic;
 #[cfg(test)]

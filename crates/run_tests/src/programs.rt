@@ -7,7 +7,8 @@ use host::recorder::Recorder;
 use machine::stop::{End, Stop};
 use run::run::Run;
 use std::alloc::{AllocError, Global};
-use std::test::*;
+use std::process::Abort;
+use std::test::Fail;
 use verifier::admit::{Admitted, admit};
 use verifier::check::check as check_file;
 use verifier::pending::Pending;
@@ -141,6 +142,7 @@ impl Program {
     /// A run on these cells makes gos on the host, each with its fuel, and with the stop and the count that it answers.
     pub(crate) fn makes<H: Host>(
         &self,
+        rt: &impl Abort,
         cells: &mut [u16],
         host: &mut H,
         goes: &[(u32, Stop, u32)],
@@ -148,21 +150,25 @@ impl Program {
         let mut run = Run::start(self.admitted()?, cells);
         for (fuel, stop, count) in goes {
             let answer = run.go(host, *fuel);
-            assert_eq!(answer.0, *stop);
-            assert_eq!(answer.1, *count);
+            assert_eq!(rt; answer.0, *stop);
+            assert_eq!(rt; answer.1, *count);
         }
         Ok(())
     }
 
     /// The same on cells enough, with no unit and no room.
-    pub(crate) fn makes_alone(&self, goes: &[(u32, Stop, u32)]) -> Result<(), Fail> {
+    pub(crate) fn makes_alone(
+        &self,
+        rt: &impl Abort,
+        goes: &[(u32, Stop, u32)],
+    ) -> Result<(), Fail> {
         let mut cells = [7; 400];
         let mut host = Recorder::open(&mut [], &[]);
-        self.makes(&mut cells, &mut host, goes)
+        self.makes(rt, &mut cells, &mut host, goes)
     }
 
     /// Alone, a run ends with this value after so many instructions.
-    pub(crate) fn gives(&self, value: u16, count: u32) -> Result<(), Fail> {
-        self.makes_alone(&[(1_000, Stop::Ended(End::Value(value)), count)])
+    pub(crate) fn gives(&self, rt: &impl Abort, value: u16, count: u32) -> Result<(), Fail> {
+        self.makes_alone(rt, &[(1_000, Stop::Ended(End::Value(value)), count)])
     }
 }

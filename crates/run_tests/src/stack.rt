@@ -3,7 +3,7 @@ use crate::opcodes::*;
 use crate::programs::{Method, Program};
 use host::recorder::Recorder;
 use machine::stop::{End, Stop};
-use std::test::*;
+use std::test::Fail;
 
 /// Main that calls itself for ever: its frame has three cells.
 const AGAIN: [&[u8]; 2] = [&[CALL, 0], &[RETURN]];
@@ -28,6 +28,7 @@ fn recursion_fills_the_cells(rt: HostRuntime) -> Result<(), Fail> {
         let mut stack = vec![in rt.alloc(); 7u16; cells]?;
         let mut host = Recorder::open(&mut [], &[]);
         program.makes(
+            &rt,
             stack.as_mut_slice(),
             &mut host,
             &[
@@ -47,6 +48,7 @@ fn cells_past_65535_are_not_used(rt: HostRuntime) -> Result<(), Fail> {
     let mut stack = vec![in rt.alloc(); 7u16; 70_000]?;
     let mut host = Recorder::open(&mut [], &[]);
     program.makes(
+        &rt,
         stack.as_mut_slice(),
         &mut host,
         &[(99_999, Stop::StackFull, 21_844)],
@@ -78,6 +80,7 @@ fn a_frame_needs_its_peak(rt: HostRuntime) -> Result<(), Fail> {
         let mut stack = vec![in rt.alloc(); 7u16; cells]?;
         let mut host = Recorder::open(&mut [], &[]);
         program.makes(
+            &rt,
             stack.as_mut_slice(),
             &mut host,
             &[(99, Stop::StackFull, count), (1, Stop::StackFull, 0)],
@@ -99,11 +102,12 @@ fn main_that_does_not_fit(rt: HostRuntime) -> Result<(), Fail> {
     ];
     let mut host = Recorder::open(&mut [], &[0, 65]);
     let mut stack = [7; 5];
-    program.makes(&mut stack, &mut host, &never)?;
+    program.makes(&rt, &mut stack, &mut host, &never)?;
     assert!(rt; stack == [7; 5]);
-    program.makes(&mut [], &mut host, &never)?;
+    program.makes(&rt, &mut [], &mut host, &never)?;
     let mut stack = [7; 6];
     program.makes(
+        &rt,
         &mut stack,
         &mut host,
         &[(99, Stop::Ended(End::Value(65)), 2)],
@@ -135,15 +139,16 @@ fn frames_on_the_cells(rt: HostRuntime) -> Result<(), Fail> {
     let program = Program::of_methods(rt.alloc(), &[main, called])?;
     let mut host = Recorder::open(&mut [], &[]);
     let mut stack = [7; 13];
-    program.makes(&mut stack, &mut host, &[(5, Stop::Spent, 5)])?;
+    program.makes(&rt, &mut stack, &mut host, &[(5, Stop::Spent, 5)])?;
     assert!(rt; stack == [0, 65_535, 65_535, 0, 0, 11, 1, 44, 0, 12, 13, 0, 13]);
     // on one cell less the call does not fit, and is not begun
     let mut stack = [7; 12];
-    program.makes(&mut stack, &mut host, &[(5, Stop::StackFull, 3)])?;
+    program.makes(&rt, &mut stack, &mut host, &[(5, Stop::StackFull, 3)])?;
     assert!(rt; stack[0..8] == [0, 65_535, 65_535, 0, 0, 11, 12, 13]);
     // IRETURN leaves its value on the cells
     let mut stack = [7; 13];
     program.makes(
+        &rt,
         &mut stack,
         &mut host,
         &[(99, Stop::Ended(End::Value(24)), 8)],

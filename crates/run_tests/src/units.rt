@@ -6,7 +6,7 @@ use host::label::Label;
 use host::recorder::Recorder;
 use machine::stop::{End, Stop};
 use run::run::Run;
-use std::test::*;
+use std::test::Fail;
 
 const PLAIN: Stop = Stop::Ended(End::Plain);
 
@@ -41,7 +41,7 @@ fn room_enough(rt: HostRuntime) -> Result<(), Fail> {
     for (mode, value, record) in RECORDS {
         let mut memory = vec![in rt.alloc(); 9u8; record.len()]?;
         let mut host = Recorder::open(memory.as_mut_slice(), &[]);
-        writing(&rt, mode, value)?.makes(&mut [7; 4], &mut host, &[(9, PLAIN, 4)])?;
+        writing(&rt, mode, value)?.makes(&rt, &mut [7; 4], &mut host, &[(9, PLAIN, 4)])?;
         assert!(rt; memory.as_slice() == record);
     }
     Ok(())
@@ -54,6 +54,7 @@ fn room_one_short(rt: HostRuntime) -> Result<(), Fail> {
         let mut memory = vec![in rt.alloc(); 9u8; record.len().saturating_sub(2)]?;
         let mut host = Recorder::open(memory.as_mut_slice(), &[]);
         writing(&rt, mode, value)?.makes(
+            &rt,
             &mut [7; 4],
             &mut host,
             &[
@@ -124,6 +125,7 @@ fn modes(rt: HostRuntime) -> Result<(), Fail> {
         let mut memory = vec![in rt.alloc(); 9u8; record.len()]?;
         let mut host = Recorder::open(memory.as_mut_slice(), &[]);
         Program::of_methods(rt.alloc(), &[main, called])?.makes(
+            &rt,
             &mut [7; 9],
             &mut host,
             &[(99, PLAIN, count)],
@@ -142,6 +144,7 @@ fn copies(rt: HostRuntime) -> Result<(), Fail> {
     let mut memory = [9; 8];
     let mut host = Recorder::open(&mut memory, &[0, 65, 0xFF, 0xFE, 3]);
     program.makes(
+        &rt,
         &mut [7; 4],
         &mut host,
         &[
@@ -154,6 +157,7 @@ fn copies(rt: HostRuntime) -> Result<(), Fail> {
     let mut memory = [9; 6];
     let mut host = Recorder::open(&mut memory, &[0, 65, 0xFF, 0xFE]);
     program.makes(
+        &rt,
         &mut [7; 4],
         &mut host,
         &[(99, Stop::NoRoom, 4), (99, Stop::NoRoom, 0)],
@@ -182,7 +186,7 @@ fn units_arrive(rt: HostRuntime) -> Result<(), Fail> {
     let (stop, count) = run.go(&mut label, 99);
     assert_eq!(rt; stop, Stop::NoUnit);
     assert_eq!(rt; count, 6);
-    assert!(rt; label.shown() == [65, 66, 67]);
+    assert!(rt; label.shown() == [65, 66, 67].as_slice());
     Ok(())
 }
 
@@ -201,6 +205,7 @@ fn a_full_label(rt: HostRuntime) -> Result<(), Fail> {
         let mut slots = [0; 1];
         let mut label = Label::new(&mut slots);
         Program::of_main(rt.alloc(), 0, &code)?.makes(
+            &rt,
             &mut [7; 4],
             &mut label,
             &[(9_999, Stop::NoRoom, count), (9_999, Stop::NoRoom, 0)],

@@ -6,8 +6,8 @@ use Rattle.format.proofs.rules.code_in_order.Goals as goal
 pub loop-k-init : goal.loop-k-init
 loop-k-init c = search (rules, firsts, code_none)
 
-pub returns-then-bad-code : goal.returns-then-bad-code
-returns-then-bad-code c = search (rules, firsts)
+pub returns-then-bad_code : goal.returns-then-bad_code
+returns-then-bad_code c = search (rules, firsts)
 
 pub loop-k-preserved : goal.loop-k-preserved
 loop-k-preserved c = search (rules, firsts, code_more)

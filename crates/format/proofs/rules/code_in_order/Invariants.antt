@@ -1,4 +1,4 @@
-use Rattle.std.proofs.Common.{◌≡◌, ◌+◌, ◌*◌, ◌^◌, ◌≤◌, None}
+use Rattle.std.proofs.Common.{◌≡◌, ◌+◌, ◌*◌, ◌≤◌, None}
 use Rattle.format.specs.Search.{first, upto}
 use Rattle.format.specs.Layout.{code_due}
 use Rattle.format.specs.Rules.{bad_code}

@@ -5,8 +5,8 @@ use Rattle.format.proofs.rules.variables_fit.Goals as goal
 pub loop-k-init : goal.loop-k-init
 loop-k-init c = search (rules, firsts)
 
-pub returns-then-bad-variables : goal.returns-then-bad-variables
-returns-then-bad-variables c = search (rules, firsts)
+pub returns-then-bad_variables : goal.returns-then-bad_variables
+returns-then-bad_variables c = search (rules, firsts)
 
 pub loop-k-preserved : goal.loop-k-preserved
 loop-k-preserved c = search (rules, firsts)

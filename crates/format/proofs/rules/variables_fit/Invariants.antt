@@ -1,4 +1,4 @@
-use Rattle.std.proofs.Common.{◌≡◌, ◌+◌, ◌*◌, ◌^◌, ◌≤◌, None}
+use Rattle.std.proofs.Common.{◌≡◌, None}
 use Rattle.format.specs.Search.{first, upto}
 use Rattle.format.specs.Rules.{bad_variables}
 use Rattle.format.proofs.rules.variables_fit.Given as goal

@@ -6,6 +6,6 @@ pub returns : goal.returns
 returns c =
     let f = c.args.self.now.bytes.now in
     record {
-      is = c.method-code.ensures;
-      there = λ h. there seen c.method-code.result (method_code f c.args.index) _ c.method-code.ensures (method_code_there f c.args.index h);
+      is = c.method_code.ensures;
+      there = λ h. there seen c.method_code.result (method_code f c.args.index) _ c.method_code.ensures (method_code_there f c.args.index h);
     }

@@ -6,6 +6,6 @@ pub returns : goal.returns
 returns c =
     let f = c.args.self.now.bytes.now in
     record {
-      is = c.method-name.ensures;
-      there = λ h. there seen c.method-name.result (method_name f c.args.index) _ c.method-name.ensures (method_name_there f c.args.index h);
+      is = c.method_name.ensures;
+      there = λ h. there seen c.method_name.result (method_name f c.args.index) _ c.method_name.ensures (method_name_there f c.args.index h);
     }

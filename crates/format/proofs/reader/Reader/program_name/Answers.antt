@@ -6,6 +6,6 @@ pub returns : goal.returns
 returns c =
     let f = c.args.self.now.bytes.now in
     record {
-      is = c.program-name.ensures;
-      there = λ h. there seen c.program-name.result (program_name f) _ c.program-name.ensures (program_name_there f h);
+      is = c.program_name.ensures;
+      there = λ h. there seen c.program_name.result (program_name f) _ c.program_name.ensures (program_name_there f h);
     }
