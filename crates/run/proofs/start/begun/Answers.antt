@@ -23,7 +23,7 @@ invariant-of-result c = (
       let s = c.args.sheet.now in
       let u = c.open.ensures in
       main_sound f s c.requires.admitted _ u.file refl (subst (λ (n : ℕ). begins f s n ≡ true) (sym u.size) c.requires.fits) u.laid
-      (same_state u.running u.waiting (ap (λ (e : MethodEntry). e.code) c.method-entry-place.ensures)),
+      (same_state u.running u.waiting (ap (λ (e : MethodEntry). e.code) c.method_entry-place.ensures)),
   tt,
 )
 
@@ -32,8 +32,8 @@ returns c =
     let f = c.args.file.now in
     let s = c.args.sheet.now in
     let u = c.open.ensures in
-    let m : Interpreter = record { frames = c.open.result; sheet = c.args.sheet; place = c.method-entry-place.result.code; mode = 0; ended = None } in
-    let q = same_state {n = 0} {o = None} u.running u.waiting (ap (λ (e : MethodEntry). e.code) c.method-entry-place.ensures) in
+    let m : Interpreter = record { frames = c.open.result; sheet = c.args.sheet; place = c.method_entry-place.result.code; mode = 0; ended = None } in
+    let q = same_state {n = 0} {o = None} u.running u.waiting (ap (λ (e : MethodEntry). e.code) c.method_entry-place.ensures) in
     let a : Admitted (program m) s = subst (λ (f : List ℕ). Admitted f s) (sym u.file) c.requires.admitted in
     record {
       state = ap (λ (t : State). Some t) q;

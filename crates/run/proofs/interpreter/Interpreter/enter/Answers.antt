@@ -29,4 +29,4 @@ returns c =
     let m = c.args.self.now in
     let u = c.enter.ensures in
     entered m c.requires.sound c.args.index c.requires.here c.requires.fits c.enter.new.self _ refl u.kept u.laid u.running u.waiting
-    _ (ap (λ (x : MethodEntry). x.code) c.method-entry.ensures ∙ ap (λ (g : List ℕ). code_address g c.args.index) u.kept.same_file)
+    _ (ap (λ (x : MethodEntry). x.code) c.method_entry.ensures ∙ ap (λ (g : List ℕ). code_address g c.args.index) u.kept.same_file)

@@ -11,10 +11,10 @@ pub top-requires : goal.top-requires
 top-requires c = record { laid = frames_laid c.args.self.now c.requires.sound }
 
 pub overflow-sub-base : goal.overflow-sub-base
-overflow-sub-base c = let l = enough_below c.args.self.now c.requires.sound c.args.index c.requires.here in rw (c.method-entry-parameters.ensures, c.top.ensures) l
+overflow-sub-base c = let l = enough_below c.args.self.now c.requires.sound c.args.index c.requires.here in rw (c.method_entry-parameters.ensures, c.top.ensures) l
 
-pub frame-need-requires : goal.frame-need-requires
-frame-need-requires c =
+pub frame_need-requires : goal.frame_need-requires
+frame_need-requires c =
     let m = c.args.self.now in
     let l = top_low m c.requires.sound c.args.index c.requires.here in
     record { inside = peak_there m c.requires.sound c.args.index c.requires.here; low = omega (arith, l, c.top.ensures) }

@@ -8,14 +8,14 @@ use Rattle.run.proofs.Calling.{ended_by, resumed}
 use Rattle.run.proofs.Steps.{frames_laid}
 use Rattle.run.proofs.interpreter.Interpreter.give_back.Goals as goal
 
-pub is-only-requires : goal.is-only-requires
-is-only-requires c = record { laid = frames_laid c.args.self.now c.requires.sound }
+pub is_only-requires : goal.is_only-requires
+is_only-requires c = record { laid = frames_laid c.args.self.now c.requires.sound }
 
-pub returns-then-is-only : goal.returns-then-is-only
-returns-then-is-only c = ended_by c.args.self.now c.requires.sound Return c.requires.here refl ending.Plain [] (λ us vs. refl) (sym c.if-is-only.ensures)
+pub returns-then-is_only : goal.returns-then-is_only
+returns-then-is_only c = ended_by c.args.self.now c.requires.sound Return c.requires.here refl ending.Plain [] (λ us vs. refl) (sym c.if-is_only.ensures)
 
 pub leave-requires : goal.leave-requires
-leave-requires c = record { laid = frames_laid c.args.self.now c.requires.sound; callers = sym c.if-is-only.ensures }
+leave-requires c = record { laid = frames_laid c.args.self.now c.requires.sound; callers = sym c.if-is_only.ensures }
 
 pub returns : goal.returns
 returns c =
