@@ -1,11 +1,11 @@
-use Rattle.std.proofs.Common.{◌≡◌, ℕ, true, List, Some, None, sym, refl, ap, ◌∙◌, subst}
+use Rattle.std.proofs.Common.{◌≡◌, ℕ, true, List, Some, None, sym, refl, ap, subst}
 use Rattle.format.specs.declared.layout.MethodEntry.{MethodEntry}
 use Rattle.verifier.specs.Numbering.{Admitted}
-use Rattle.machine.specs.Machine.{State, main}
+use Rattle.machine.specs.Machine.{State}
 use Rattle.machine.specs.Go.{begins}
 use Rattle.machine.proofs.Row.{keeps_level_on, replays_on}
 use Rattle.run.specs.declared.interpreter.Interpreter.{Interpreter}
-use Rattle.run.specs.Sound.{program, cells, state_of, sound}
+use Rattle.run.specs.Sound.{program, cells}
 use Rattle.run.proofs.Holding.{holds, main_plain, main_room, main_sound}
 use Rattle.run.proofs.Steps.{same_state}
 use Rattle.run.proofs.start.begun.Goals as goal

@@ -1,7 +1,7 @@
-use Rattle.std.proofs.Common.{◌≡◌, ℕ, ◌+◌, ◌<◌, Bool, true, false, cond, List, ◌∷◌, drop, Some, sym, refl, ap, ◌∙◌, subst, arith}
+use Rattle.std.proofs.Common.{◌≡◌, ℕ, true, List, ◌∷◌, Some, sym, refl, ap, ◌∙◌, arith}
 use Rattle.bytecode.specs.Places.{next}
 use Rattle.bytecode.specs.declared.instruction.Instruction.TheVariants.{Dup}
-use Rattle.frames.specs.Frames.{running, kept_refl, kept_trans}
+use Rattle.frames.specs.Frames.{running, kept_refl}
 use Rattle.machine.specs.Machine.{execute, fed, continue_at, with_operands}
 use Rattle.run.specs.Sound.{program, stands, state_of, sound}
 use Rattle.run.proofs.Steps.{frames_laid, place_small, taken, free_cell, proceeded, Proceeds}

@@ -1,10 +1,6 @@
-use Rattle.std.proofs.Common.{◌≡◌, ℕ, ◌+◌, ◌<◌, Bool, true, false, cond, List, ◌∷◌, sym, refl, ap, ◌∙◌, subst, arith}
+use Rattle.std.proofs.Common.{ℕ, List, refl, ap, ◌∙◌, arith}
 use Rattle.format.specs.Layout.{code_address}
 use Rattle.format.specs.declared.layout.MethodEntry.{MethodEntry}
-use Rattle.bytecode.specs.declared.instruction.Instruction.TheVariants.{Invokevirtual}
-use Rattle.frames.specs.Frames.{running, waiting, kept_trans}
-use Rattle.machine.specs.Machine.{execute, fed}
-use Rattle.run.specs.Sound.{program, state_of}
 use Rattle.run.proofs.Calling.{enough, room, entered}
 use Rattle.run.proofs.Steps.{frames_laid, place_small}
 use Rattle.run.proofs.interpreter.Interpreter.enter.Goals as goal

@@ -1,8 +1,4 @@
-use Rattle.std.proofs.Common.{◌≡◌, ℕ, ◌+◌, ◌<◌, Bool, true, false, cond, List, ◌∷◌, sym, refl, ap, ◌∙◌, subst, arith}
-use Rattle.bytecode.specs.declared.instruction.Instruction.TheVariants.{Invokevirtual}
-use Rattle.frames.specs.Frames.{running, waiting, kept_trans}
-use Rattle.machine.specs.Machine.{execute, fed}
-use Rattle.run.specs.Sound.{program, state_of}
+use Rattle.std.proofs.Common.{arith}
 use Rattle.run.proofs.Calling.{enough_below, peak_there, top_low}
 use Rattle.run.proofs.Steps.{frames_laid}
 use Rattle.run.proofs.interpreter.Interpreter.fits.Goals as goal

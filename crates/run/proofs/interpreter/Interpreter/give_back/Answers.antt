@@ -1,9 +1,7 @@
-use Rattle.std.proofs.Common.{◌≡◌, ℕ, ◌+◌, ◌<◌, Bool, true, false, cond, List, [], ◌∷◌, sym, refl, ap, ◌∙◌, subst, arith}
+use Rattle.std.proofs.Common.{[], sym, refl}
 use Rattle.machine.specs.declared.stop.End.TheVariants as ending
 use Rattle.bytecode.specs.declared.instruction.Instruction.TheVariants.{Return}
-use Rattle.frames.specs.Frames.{running, waiting, kept_trans}
-use Rattle.machine.specs.Machine.{execute, fed}
-use Rattle.run.specs.Sound.{program, state_of}
+use Rattle.frames.specs.Frames.{running, waiting}
 use Rattle.run.proofs.Calling.{ended_by, resumed}
 use Rattle.run.proofs.Steps.{frames_laid}
 use Rattle.run.proofs.interpreter.Interpreter.give_back.Goals as goal

@@ -1,4 +1,4 @@
-use Rattle.std.proofs.Common.{◌≡◌, ℕ, ◌+◌, ◌<◌, Bool, true, false, cond, List, [], ◌∷◌, sym, refl, ap, ◌∙◌, subst, arith}
+use Rattle.std.proofs.Common.{ℕ, ◌<◌, [], ◌∷◌, sym, refl, ap, subst}
 use Rattle.machine.specs.declared.stop.End.TheVariants as ending
 use Rattle.machine.specs.Go.{frames_size, cells_used}
 use Rattle.bytecode.specs.declared.instruction.Instruction.TheVariants.{Ireturn}

@@ -1,6 +1,6 @@
-use Rattle.std.proofs.Common.{◌≡◌, ℕ, ◌+◌, ◌<◌, List, ◌∷◌, sym, refl, ap, ◌∙◌, subst, arith}
+use Rattle.std.proofs.Common.{refl, ap, arith}
 use Rattle.bytecode.specs.declared.instruction.Instruction.TheVariants.{Pop}
-use Rattle.frames.specs.Frames.{running, kept_refl, kept_trans}
+use Rattle.frames.specs.Frames.{running}
 use Rattle.machine.specs.Machine.{execute, fed}
 use Rattle.run.specs.Sound.{program, state_of}
 use Rattle.run.proofs.Steps.{frames_laid, place_small, taken, proceeded}

@@ -1,8 +1,6 @@
-use Rattle.std.proofs.Common.{◌≡◌, ℕ, ◌+◌, ◌<◌, List, ◌∷◌, sym, refl, ap, ◌∙◌, subst, arith}
+use Rattle.std.proofs.Common.{◌∷◌, refl, arith}
 use Rattle.bytecode.specs.declared.instruction.Instruction.TheVariants.{Bipush}
-use Rattle.frames.specs.Frames.{running, kept_refl, kept_trans}
-use Rattle.machine.specs.Machine.{execute, fed}
-use Rattle.run.specs.Sound.{program, state_of}
+use Rattle.frames.specs.Frames.{running, kept_refl}
 use Rattle.run.proofs.Steps.{frames_laid, place_small, free_cell, proceeded}
 use Rattle.run.proofs.interpreter.Interpreter.push_number.Goals as goal
 

@@ -1,8 +1,7 @@
-use Rattle.std.proofs.Common.{◌≡◌, ℕ, ◌+◌, ◌<◌, ◌≤◌, Bool, true, false, ltb, List, [], ◌∷◌, ◌++◌, length, sym, refl, ap, ◌∙◌, subst}
+use Rattle.std.proofs.Common.{ℕ, ◌+◌, ◌<◌, ◌≤◌, Bool, List, ◌++◌, length, sym, refl, ap, ◌∙◌, subst}
 use Rattle.std.proofs.lemmas.Bool.{lt-ltb, le-ltb}
 use Rattle.format.specs.Search.{when}
 use Rattle.machine.specs.declared.stop.Stop.TheVariants.{NoRoom}
-use Rattle.bytecode.specs.declared.instruction.Instruction.TheVariants.{Out}
 use Rattle.machine.specs.Go.{next_text}
 use Rattle.run.specs.Sound.{program, state_of}
 use Rattle.run.specs.Step.{host_of}

@@ -1,7 +1,6 @@
-use Rattle.std.proofs.Common.{◌≡◌, ℕ, ◌+◌, ◌<◌, Bool, true, false, cond, List, ◌∷◌, sym, refl, ap, ◌∙◌, subst, arith}
-use Rattle.bytecode.specs.Places.{next}
+use Rattle.std.proofs.Common.{◌∷◌, refl, ap, ◌∙◌, arith}
 use Rattle.bytecode.specs.declared.instruction.Instruction.TheVariants.{Swap}
-use Rattle.frames.specs.Frames.{running, kept_refl, kept_trans}
+use Rattle.frames.specs.Frames.{running, kept_trans}
 use Rattle.machine.specs.Machine.{Frame, execute, fed, with_operands}
 use Rattle.run.specs.Sound.{program, state_of}
 use Rattle.run.proofs.Steps.{over, frames_laid, place_small, taken, cell_free, peak, proceeded}

@@ -1,8 +1,7 @@
-use Rattle.std.proofs.Common.{◌≡◌, Bool, true, false, List, [], ◌∷◌, sym, refl, ap, ◌∙◌, subst}
+use Rattle.std.proofs.Common.{List, sym, refl, ap, ◌∙◌}
 use Rattle.format.specs.Search.{when}
 use Rattle.machine.specs.declared.stop.Stop.TheVariants.{NoUnit}
 use Rattle.machine.specs.Machine.{none_left}
-use Rattle.bytecode.specs.declared.instruction.Instruction.TheVariants.{In}
 use Rattle.run.specs.Step.{host_of}
 use Rattle.run.proofs.Turning.{same_host, in_hinders, took_turn}
 use Rattle.run.proofs.interpreter.Interpreter.take_unit.Goals as goal
