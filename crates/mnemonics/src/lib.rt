@@ -1,5 +1,6 @@
 //! Instructions as text: the name, and the arguments as decimal numbers.
 #![tactic(auto)]
+
 ghost use Rattle.std.specs.Prelude.{◌≡◌, IfOk, string_bytes};
 ghost use Rattle.mnemonics.specs.Mnemonics.{name_of, operands_of, signed_text, operands_text, instruction_text};
 

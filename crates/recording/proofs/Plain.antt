@@ -1,12 +1,10 @@
 -- The units of a recorded run are those of the plain machine. Assumes nothing.
-use Rattle.std.proofs.Common.{◌≡◌, ℕ, true, false, List, [], ◌∷◌, ◌++◌, refl, ap, ◌∙◌, append-nil}
+use Rattle.std.proofs.Common.{◌≡◌, ℕ, List, [], ◌∷◌, ◌++◌, refl, ap, ◌∙◌, append-nil}
 use Rattle.host.specs.Recorder.{units_of}
-use Rattle.verifier.specs.Numbering.{Admitted}
 use Rattle.machine.specs.Machine.{machine_after}
-use Rattle.machine.specs.Go.{begins}
 use Rattle.machine.specs.Rows.{arrivals, row_units}
 use Rattle.machine.proofs.Row.{follows_on, never_begins_on}
-use Rattle.recording.specs.Recording.{slices, opened, recorded_row, recorded_units, PlainUnits}
+use Rattle.recording.specs.Recording.{slices, opened, recorded_row, PlainUnits}
 
 -- no unit arrives between the gos
 nothing_arrives : (fuels : List ℕ) → arrivals (slices fuels) ≡ []

@@ -1,5 +1,6 @@
 //! A run whose units are recorded in lent memory.
 #![tactic(auto)]
+
 ghost use Rattle.std.specs.Prelude.{◌≡◌, ◌≤◌, length, OnErr, OnOk};
 ghost use Rattle.std.specs.Result.{result_err};
 ghost use Rattle.host.specs.Recorder.{room_in, recorded};

@@ -1,17 +1,16 @@
 -- A row on a label so far, and the laws of the row that it goes on with. Assumes nothing.
-use Rattle.std.proofs.Common.{◌≡◌, ℕ, ◌+◌, ◌*◌, ◌≤◌, Bool, true, false, List, [], ◌∷◌, ◌++◌, length, drop, Some, None, Option, sym, refl, ap, ◌∙◌, subst, add-zero, add_assoc, arith}
+use Rattle.std.proofs.Common.{◌≡◌, ℕ, ◌+◌, ◌*◌, ◌≤◌, true, List, [], ◌∷◌, ◌++◌, drop, None, Option, sym, refl, ap, ◌∙◌, subst, add-zero, add_assoc, arith}
 use Rattle.host.specs.declared.label.Label.{Label}
 use Rattle.host.specs.Label.{label_capacity}
 use Rattle.verifier.specs.Numbering.{Admitted}
 use Rattle.machine.specs.declared.stop.Stop.{Stop}
-use Rattle.machine.specs.Machine.{State}
 use Rattle.machine.specs.Go.{Host, begins}
 use Rattle.machine.specs.Rows as any
 use Rattle.machine.specs.Rows.{slice, arrives, room_set, Row, apply_event, row, new, row_units, RowFollows, RowKeepsLevel, RowRests}
 use Rattle.machine.proofs.Row.{keeps_level_on, follows_on, never_begins_on}
 use Rattle.frames.specs.Frames.{kept_refl, kept_trans}
 use Rattle.run.specs.declared.run.Run.{Run}
-use Rattle.run.specs.Run.{file_of, sheet_of, size_of, seen, Stays}
+use Rattle.run.specs.Run.{file_of, sheet_of, size_of, Stays}
 use Rattle.run.proofs.Runs.{admitted_run}
 use Rattle.rows.specs.declared.event.Event.{Event}
 use Rattle.rows.specs.Carried.{at, effect, effects, stop_after, last_stop, stop_or, count_of, effects_on, Carried, Carries, Comes, Lawful, GoesOn}

@@ -1,5 +1,6 @@
 //! A row of gos on a label, with units keyed between them.
 #![tactic(auto)]
+
 ghost use Rattle.run.specs.Run.{HoldsFrames};
 ghost use Rattle.rows.specs.Carried.{Carried, Carries, GoesOn};
 

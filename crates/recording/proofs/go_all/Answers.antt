@@ -1,6 +1,6 @@
 use Rattle.std.proofs.Common.{arith}
 use Rattle.run.specs.Step.{host_of}
-use Rattle.recording.proofs.Slices.{Going, going_first, going_on, going_last}
+use Rattle.recording.proofs.Slices.{going_first, going_on, going_last}
 use Rattle.recording.proofs.go_all.Goals as goal
 
 pub loop-fuel-init : goal.loop-fuel-init

@@ -4,7 +4,7 @@ use Rattle.run.proofs.Runs.{holds_frames}
 use Rattle.rows.specs.declared.event.Event.TheVariants.{Go}
 use Rattle.rows.proofs.Carrying.{going_ends, going_with, goes_on}
 use Rattle.rows.proofs.carry_out.Goals as goal
-use Rattle.rows.proofs.carry_out.Goals.{in-Some, in-default}
+use Rattle.rows.proofs.carry_out.Goals.{in-Some, in_default}
 
 pub loop-event-preserved : goal.loop-event-preserved
 loop-event-preserved c =

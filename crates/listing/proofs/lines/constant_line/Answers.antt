@@ -2,7 +2,7 @@ use Rattle.std.proofs.Common.{◌≡◌, length, arith, rules}
 use Rattle.format.specs.Parts.{seen}
 use Rattle.listing.proofs.Held.{constant_length, constant_number}
 use Rattle.listing.proofs.lines.constant_line.Goals as goal
-use Rattle.listing.proofs.lines.constant_line.Goals.{in-default-bytes-via-then-part-lt2, in-default-bytes-via-else-part-lt2+else-this-lt3}
+use Rattle.listing.proofs.lines.constant_line.Goals.{in_default-bytes-via-then-part-lt2, in_default-bytes-via-else-part-lt2+else-this-lt3}
 
 pub unreachable-requires-in_default-bytes : goal.unreachable-requires-in_default-bytes
 unreachable-requires-in_default-bytes c =
