@@ -1,7 +1,7 @@
 -- What the parts of an accepted file hold, once they are answered. Assumes nothing.
-use Rattle.std.proofs.Common.{◌≡◌, ℕ, ◌+◌, ◌*◌, ◌<◌, ◌≤◌, List, length, get_or, take, drop, Some, ap, ◌∙◌, add-zero, arith, length-drop, length-take, get_or-drop, get_or-take}
+use Rattle.std.proofs.Common.{◌≡◌, ℕ, ◌+◌, ◌*◌, ◌<◌, List, length, get_or, take, drop, Some, ap, ◌∙◌, add-zero, arith, length-drop, length-take, get_or-drop, get_or-take}
 use Rattle.format.specs.declared.reader.Variables.{Variables}
-use Rattle.format.specs.Layout.{byte, be16, methods, constants, parameters, locals, code_address, code_size, constant_address, tables_end}
+use Rattle.format.specs.Layout.{byte, be16, methods, constants, parameters, locals, code_address, code_size, constant_address}
 use Rattle.format.specs.Parts.{Accepted, Piece, piece, within, constant, method_code, method_variables}
 use Rattle.format.proofs.Sounds.{sound}
 use Rattle.format.proofs.Answered.{code_fits, found_within, found_among}

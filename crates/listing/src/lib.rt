@@ -1,6 +1,7 @@
 //! The listing of a program file: its parts and its instructions, or why it is refused.
 
 #![tactic(auto)]
+
 mod code;
 mod lines;
 mod meanings;

@@ -1,5 +1,4 @@
-use Rattle.std.proofs.Common.{arith, rules}
-use Rattle.format.specs.Layout.{methods, tables_end, entry}
+use Rattle.std.proofs.Common.{arith}
 use Rattle.format.proofs.Sounds.{sound}
 use Rattle.verifier.proofs.Peaks.{entry_low}
 use Rattle.listing.proofs.code.peak_at.Goals as goal

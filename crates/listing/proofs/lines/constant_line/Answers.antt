@@ -1,4 +1,4 @@
-use Rattle.std.proofs.Common.{◌≡◌, length, arith, rules}
+use Rattle.std.proofs.Common.{◌≡◌, length, rules}
 use Rattle.format.specs.Parts.{seen}
 use Rattle.listing.proofs.Held.{constant_length, constant_number}
 use Rattle.listing.proofs.lines.constant_line.Goals as goal
