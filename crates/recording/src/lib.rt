@@ -4,7 +4,7 @@
 ghost use Rattle.std.specs.Prelude.{◌≡◌, ◌≤◌, length, OnErr, OnOk};
 ghost use Rattle.std.specs.Result.{result_err};
 ghost use Rattle.host.specs.Recorder.{room_in, recorded};
-ghost use Rattle.verifier.specs.Numbering.{Admitted as Is-admitted, admit_refusal};
+ghost use Rattle.verifier.specs.Numbering.{Admitted as IsAdmitted, admit_refusal};
 ghost use Rattle.run.specs.Step.{host_of};
 ghost use Rattle.run.specs.Run.{Stays};
 ghost use Rattle.recording.specs.Recording.{Makes, recorded_units, PlainUnits};
@@ -34,7 +34,7 @@ fn record_admitted(
     keys: &[u8],
     fuels: &[u32],
 )
-    requires admitted { Is-admitted admitted.file.now admitted.sheet.now }
+    requires admitted { IsAdmitted admitted.file.now admitted.sheet.now }
     ensures memory { memory.new ≡ recorded memory.old (recorded_units admitted.entry.file.now admitted.entry.sheet.now (length stack.old) memory.old keys.now fuels.now) }
     ensures room { length (recorded_units admitted.entry.file.now admitted.entry.sheet.now (length stack.old) memory.old keys.now fuels.now) ≤ room_in (length memory.old) }
 {

@@ -1,6 +1,6 @@
 //! The start of a run, and its gos.
 ghost use Rattle.std.specs.Prelude.{◌≡◌, true, false, length, Some, None};
-ghost use Rattle.verifier.specs.Numbering.{Admitted as Is-admitted};
+ghost use Rattle.verifier.specs.Numbering.{Admitted as IsAdmitted};
 ghost use Rattle.machine.specs.Go.{begins, start};
 ghost use Rattle.machine.specs.Machine.{State, main};
 ghost use Rattle.run.specs.Run.{file_of, sheet_of, size_of, stack_of, seen, HoldsFrames, Goes, Stays, KeepsLevel, Replays};
@@ -17,7 +17,7 @@ use verifier::admit::Admitted;
 
 /// Whether main's frame fits on so many cells.
 fn main_fits(file: &[u8], sheet: &[u16], cells: usize) -> bool
-    requires admitted { Is-admitted file.now sheet.now }
+    requires admitted { IsAdmitted file.now sheet.now }
     ensures { result ≡ begins file.now sheet.now cells }
 {
     frame_need(file, sheet, 0, 0) <= cells.min(MOST_CELLS)
@@ -25,7 +25,7 @@ fn main_fits(file: &[u8], sheet: &[u16], cells: usize) -> bool
 
 /// A run at main's start.
 fn begun<'f, 'p, 's>(file: &'f [u8], sheet: &'p [u16], stack: &'s mut [u16]) -> Run<'f, 'p, 's>
-    requires admitted { Is-admitted file.now sheet.now }
+    requires admitted { IsAdmitted file.now sheet.now }
     requires fits { begins file.now sheet.now (length stack.old) ≡ true }
     ensures state { seen result ≡ Some (main file.now) }
     ensures file { file_of result ≡ file.now }
@@ -51,7 +51,7 @@ fn begun<'f, 'p, 's>(file: &'f [u8], sheet: &'p [u16], stack: &'s mut [u16]) -> 
 
 /// A run that never begins: it is at no instruction, and has no frame.
 fn unbegun<'f, 'p, 's>(file: &'f [u8], sheet: &'p [u16], stack: &'s mut [u16]) -> Run<'f, 'p, 's>
-    requires admitted { Is-admitted file.now sheet.now }
+    requires admitted { IsAdmitted file.now sheet.now }
     ensures state { seen result ≡ None }
     ensures file { file_of result ≡ file.now }
     ensures sheet { sheet_of result ≡ sheet.now }
@@ -76,7 +76,7 @@ fn unbegun<'f, 'p, 's>(file: &'f [u8], sheet: &'p [u16], stack: &'s mut [u16]) -
 impl<'f, 'p, 's> Run<'f, 'p, 's> {
     /// A new run of an admitted file on these cells. It asks for nothing but a pair that `admit` gave.
     pub fn start(admitted: Admitted<'f, 'p>, stack: &'s mut [u16]) -> Run<'f, 'p, 's>
-        requires admitted { Is-admitted admitted.file.now admitted.sheet.now }
+        requires admitted { IsAdmitted admitted.file.now admitted.sheet.now }
         ensures state { seen result ≡ start admitted.entry.file.now admitted.entry.sheet.now (length stack.old) }
         ensures file { file_of result ≡ admitted.entry.file.now }
         ensures sheet { sheet_of result ≡ admitted.entry.sheet.now }

@@ -1,5 +1,5 @@
 -- The sheet that check leaves of a file that it accepts, in as much memory as the file has bytes, and what is told of the file. Assumes nothing.
-use Rattle.std.proofs.Common.{◌≡◌, ℕ, List, ◌++◌, length, drop, Some, None, Option, sym, refl, ap, ◌∙◌, subst, append-nil, arith}
+use Rattle.std.proofs.Common.{◌≡◌, ℕ, List, ◌++◌, length, Some, None, Option, sym, refl, ap, ◌∙◌, append-nil, arith}
 use Rattle.std.proofs.lemmas.List.{drop_all}
 use Rattle.refusals.specs.declared.Refusal.{Refusal}
 use Rattle.format.proofs.Finds.{some_none}

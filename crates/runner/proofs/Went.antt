@@ -1,5 +1,5 @@
 -- The first go of a new run, as the plain machine does it. Assumes nothing.
-use Rattle.std.proofs.Common.{◌≡◌, ℕ, ◌≤◌, List, [], Some, None, Option, sym, refl, ap, ◌∙◌, arith}
+use Rattle.std.proofs.Common.{◌≡◌, ℕ, ◌≤◌, List, [], Some, None, Option, sym, ◌∙◌, arith}
 use Rattle.machine.specs.declared.stop.Stop.{Stop}
 use Rattle.machine.specs.Machine.{State, fed}
 use Rattle.machine.specs.Go.{Host, Outcome, start, outcome}

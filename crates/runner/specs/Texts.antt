@@ -1,6 +1,5 @@
 -- What the programs ejvm and record print of a file and its keys. Assumes nothing.
 use Rattle.std.specs.Prelude.{ℕ, cond, List, [], length, take, replicate, Some, None, codes, nat_lt}
-use Rattle.refusals.specs.declared.Refusal.{Refusal}
 use Rattle.verifier.specs.Numbering.{numbering, with_peaks, check_refusal}
 use Rattle.host.specs.Recorder.{units_of, recorded}
 use Rattle.machine.specs.Go.{Host, Outcome, start, outcome}

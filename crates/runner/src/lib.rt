@@ -1,6 +1,7 @@
 //! A program file run with keys, on a label or on a recorder, and told as text.
 
 #![tactic(auto)]
+
 mod checking;
 mod first_go;
 mod keys;

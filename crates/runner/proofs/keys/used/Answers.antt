@@ -1,4 +1,4 @@
-use Rattle.std.proofs.Common.{◌≡◌, arith, length-take}
+use Rattle.std.proofs.Common.{arith, length-take}
 use Rattle.runner.proofs.Keying.{first_used}
 use Rattle.runner.proofs.keys.used.Goals as goal
 

@@ -1,6 +1,5 @@
 use Rattle.std.proofs.Common.{◌≡◌, rules}
 use Rattle.host.specs.Recorder.{recorded, recorder_waiting, recorder_written, recorder_space}
-use Rattle.machine.specs.Go.{Host}
 use Rattle.run.specs.Step.{host_of}
 use Rattle.runner.specs.Texts.{key_units, new_host, first_go}
 use Rattle.runner.proofs.Recording.{opened, stop_on, count_on, memory_after}

@@ -1,4 +1,4 @@
-use Rattle.std.proofs.Common.{◌≡◌, ap, arith}
+use Rattle.std.proofs.Common.{ap, arith}
 use Rattle.machine.specs.Rows.{Row}
 use Rattle.run.specs.Run.{file_of, sheet_of, size_of, seen}
 use Rattle.rows.specs.Carried.{label_host}
