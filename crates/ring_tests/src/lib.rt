@@ -1,6 +1,7 @@
 //! Tests of the ring buffer.
 
 #![tactic(auto)]
+
 #[cfg(test)]
 mod tests {
     use ring::Ring;
