@@ -1,6 +1,7 @@
 //! The bytecode: the opcode tables, instructions taken apart, and the rules of a file's code.
 
 #![tactic(auto)]
+
 pub mod decode;
 pub mod flow;
 pub mod instruction;

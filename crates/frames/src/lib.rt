@@ -1,6 +1,7 @@
 //! The frames of a run: its methods' frames one upon the other on lent cells of sixteen bits.
 
 #![tactic(auto)]
+
 mod calls;
 pub mod laws;
 mod laying;

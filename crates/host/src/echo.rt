@@ -7,8 +7,8 @@ use refusals::Refusal;
 
 /// Writes the first waiting unit back and answers it, if one waits; refuses, and changes nothing, exactly where there is no room.
 pub fn echo<H: Host>(host: &mut H) -> Result<Option<u16>, Refusal>
-    ensures kept { kept host.old host.new }
-    ensures units { Echoed (waiting host.old) (written host.old) (space host.old) result (waiting host.new) (written host.new) (space host.new) }
+    ensures kept { H.kept host.old host.new }
+    ensures units { Echoed (H.waiting host.old) (H.written host.old) (H.space host.old) result (H.waiting host.new) (H.written host.new) (H.space host.new) }
 {
     if host.room() == 0 {
         return Err(NO_ROOM);
@@ -18,9 +18,9 @@ pub fn echo<H: Host>(host: &mut H) -> Result<Option<u16>, Refusal>
 
 /// Writes the first waiting unit back and answers it, if one waits.
 fn relay<H: Host>(host: &mut H) -> Option<u16>
-    requires { 0 < space host.old }
-    ensures kept { kept host.old host.new }
-    ensures units { Echoed (waiting host.old) (written host.old) (space host.old) (Ok result) (waiting host.new) (written host.new) (space host.new) }
+    requires { 0 < H.space host.old }
+    ensures kept { H.kept host.old host.new }
+    ensures units { Echoed (H.waiting host.old) (H.written host.old) (H.space host.old) (Ok result) (H.waiting host.new) (H.written host.new) (H.space host.new) }
 {
     let unit = host.take()?;
     // there is room, so the unit is not refused

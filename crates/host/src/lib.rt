@@ -1,5 +1,6 @@
 //! Hosts: what a program takes its units from and puts its units to.
 #![tactic(auto)]
+
 ghost use Rattle.std.specs.Prelude.{◌≡◌, ℕ, ◌≤◌, List};
 ghost use Rattle.host.specs.Host.{Added};
 ghost use Rattle.ring.specs.Ring.{Popped};

@@ -1,11 +1,11 @@
 -- What the count of a go says of each instruction before it. Assumes nothing.
-use Rattle.std.proofs.Common.{◌≡◌, ℕ, zero, suc, ◌+◌, ◌<◌, ◌≤◌, Bool, true, false, cond, eqb, ltb, List, length, is_some, Some, None, Option, unwrap_or, sym, refl, ◌∙◌, subst, inl, inr, zero-le, add-zero, add-suc, suc-add, zero-add, arith}
+use Rattle.std.proofs.Common.{◌≡◌, ℕ, zero, suc, ◌+◌, ◌<◌, ◌≤◌, Bool, true, false, cond, eqb, ltb, List, length, is_some, Some, None, Option, sym, refl, ◌∙◌, subst, inl, inr, zero-le, add-zero, add-suc, suc-add, zero-add, arith}
 use Rattle.std.specs.Option.{option_map}
 use Rattle.std.proofs.lemmas.Bool.{cases_order, ltb-false, eq-eqb, both_ways}
 use Rattle.format.specs.Search.{◌else◌, when}
 use Rattle.machine.specs.Machine.{Fed, awaits_input, after}
 use Rattle.machine.specs.declared.stop.Stop.{Stop}
-use Rattle.machine.specs.declared.stop.Stop.TheVariants.{Ended, Spent, NoUnit, NoRoom, StackFull}
+use Rattle.machine.specs.declared.stop.Stop.TheVariants.{Ended, Spent, NoUnit, NoRoom}
 use Rattle.machine.specs.Go.{next_text, hindrance, stop_at, least, count}
 
 module _ (t : ℕ → Bool) where

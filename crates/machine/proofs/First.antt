@@ -2,7 +2,7 @@
 use Rattle.std.proofs.Common.{◌≡◌, ℕ, zero, suc, ◌≤◌, Bool, true, false, cond, List, [], ◌++◌, is_some, unwrap_or, sym, refl, ap, ◌∙◌, arith}
 use Rattle.std.proofs.lemmas.Bool.{or_right}
 use Rattle.machine.specs.Machine.{Fed, fed, main, awaits_input, idle, executed, step, after, machine_after}
-use Rattle.machine.specs.Rows.{row, row_units, new, wrote, FirstUnits}
+use Rattle.machine.specs.Rows.{row, row_units, new, FirstUnits}
 use Rattle.machine.proofs.Wide.{wide, step_wide}
 use Rattle.machine.proofs.Writes.{after_grows}
 use Rattle.machine.proofs.SameMachine.{same_fed}

@@ -1,5 +1,5 @@
 -- The plain machine: one instruction, and many, fed a list of units. Assumes nothing.
-use Rattle.std.specs.Prelude.{ℕ, zero, suc, ◌+◌, ◌-◌, ◌%◌, Bool, true, false, cond, not, ◌&&◌, ◌||◌, List, [], ◌∷◌, ◌++◌, reverse, length, take, drop, set, replicate, is_some, Some, None, Option, ◌==◌, bit_and, bit_or, nat_le, nat_lt, slice_index, slice_set}
+use Rattle.std.specs.Prelude.{ℕ, zero, suc, ◌+◌, ◌-◌, ◌%◌, Bool, true, false, cond, not, ◌&&◌, ◌||◌, List, [], ◌∷◌, ◌++◌, reverse, length, take, drop, replicate, is_some, Some, None, Option, ◌==◌, bit_and, bit_or, nat_le, nat_lt, slice_index, slice_set}
 use Rattle.std.specs.Option.{unwrap_or}
 use Rattle.format.specs.Layout.{byte, be16, methods, constants, messages, entry, parameters, locals, code_address, constant_address}
 use Rattle.bytecode.specs.declared.instruction.Instruction.{Instruction}

@@ -1,5 +1,6 @@
 //! The plain machine: what a run of a program does, instruction by instruction, and what a go on it answers.
 #![tactic(auto)]
+
 ghost use Rattle.machine.specs.Cases.{WorkedCases};
 
 pub mod laws;

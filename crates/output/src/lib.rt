@@ -1,5 +1,6 @@
 //! What OUT writes of a value: the units of each output mode, and putting them on a host.
 #![tactic(auto)]
+
 ghost use Rattle.std.specs.Prelude.{◌≤◌};
 
 mod decimal;

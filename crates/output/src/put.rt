@@ -24,11 +24,11 @@ impl Text {
 
     /// Writes the units. Only for the crates above: there is room for them.
     pub fn put<H: Host>(&self, host: &mut H)
-        requires room { length (units_of self.now) ≤ space host.old }
-        ensures kept { kept host.old host.new }
-        ensures waiting { waiting host.new ≡ waiting host.old }
-        ensures written { written host.new ≡ written host.old ++ units_of self.now }
-        ensures space { space host.old ≡ space host.new + length (units_of self.now) }
+        requires room { length (units_of self.now) ≤ H.space host.old }
+        ensures kept { H.kept host.old host.new }
+        ensures waiting { H.waiting host.new ≡ H.waiting host.old }
+        ensures written { H.written host.new ≡ H.written host.old ++ units_of self.now }
+        ensures space { H.space host.old ≡ H.space host.new + length (units_of self.now) }
     {
         put_all(self.units(), host);
     }
@@ -36,11 +36,11 @@ impl Text {
 
 /// Writes these units, for which there is room.
 fn put_all<H: Host>(units: &[u16], host: &mut H)
-    requires { length units.now ≤ space host.old }
-    ensures kept { kept host.old host.new }
-    ensures waiting { waiting host.new ≡ waiting host.old }
-    ensures written { written host.new ≡ written host.old ++ units.now }
-    ensures space { space host.old ≡ space host.new + length units.now }
+    requires { length units.now ≤ H.space host.old }
+    ensures kept { H.kept host.old host.new }
+    ensures waiting { H.waiting host.new ≡ H.waiting host.old }
+    ensures written { H.written host.new ≡ H.written host.old ++ units.now }
+    ensures space { H.space host.old ≡ H.space host.new + length units.now }
 {
     for unit in units {
         // there is room, so the unit is not refused

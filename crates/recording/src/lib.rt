@@ -16,9 +16,9 @@ use verifier::admit::{Admitted, admit};
 
 /// Makes a go with each of these fuels, one after the other.
 fn go_all<H: Host>(run: &mut Run, host: &mut H, fuels: &[u32])
-    ensures makes { Makes run.old (host_of (waiting host.old) (written host.old) (space host.old)) fuels.now run.new (host_of (waiting host.new) (written host.new) (space host.new)) }
+    ensures makes { Makes run.old (host_of (H.waiting host.old) (H.written host.old) (H.space host.old)) fuels.now run.new (host_of (H.waiting host.new) (H.written host.new) (H.space host.new)) }
     ensures stays { Stays run.old run.new }
-    ensures kept { kept host.old host.new }
+    ensures kept { H.kept host.old host.new }
 {
     for fuel in fuels {
         run.go(host, *fuel);

@@ -1,5 +1,6 @@
 //! What the engine says when it refuses: the rule that is broken, and where.
 #![tactic(auto)]
+
 ghost use Rattle.std.specs.Prelude.{◌≡◌};
 ghost use Rattle.refusals.specs.Refusals.{number_of, layer_of};
 

@@ -1,5 +1,5 @@
 -- Values from a slot on: how many they are, with one more at the end, with the first one off.
-use Rattle.std.proofs.Common.{◌≡◌, ℕ, zero, suc, ◌+◌, ◌-◌, ◌<◌, ◌≤◌, min, List, [], ◌∷◌, ◌++◌, length, get_or, take, drop, set, sym, refl, ap, ◌∙◌, arith, length-append, length-drop, length-take}
+use Rattle.std.proofs.Common.{◌≡◌, ℕ, zero, suc, ◌+◌, ◌-◌, ◌<◌, ◌≤◌, min, List, [], ◌∷◌, ◌++◌, length, get_or, take, drop, set, sym, ap, ◌∙◌, arith, length-append, length-drop, length-take}
 use Rattle.std.proofs.lemmas.List.{length-take-le, length-set, take-take, take_all, take-append-le, take_more_set, drop_all, drop_more, drop-set-add, drop-set-lt, set-append_right}
 use Rattle.ring.specs.Ring.{turned, from_slot}
 

@@ -1,5 +1,6 @@
 //! A ring buffer: a first-in-first-out line over lent memory.
 #![tactic(auto)]
+
 ghost use Rattle.std.specs.Prelude.{◌≡◌, ◌-◌, ◌<◌, ◌≤◌, [], ◌∷◌, ◌++◌, length, drop, ◌==◌};
 ghost use Rattle.ring.specs.Ring.{items, capacity, Pushed, Popped, from_slot};
 

@@ -1,5 +1,5 @@
 -- Calls and returns: from what is done to the frames to what is done to the plain machine. Assumes nothing.
-use Rattle.std.proofs.Common.{◌≡◌, ℕ, ◌+◌, ◌-◌, ◌<◌, ◌≤◌, Bool, true, false, cond, ◌&&◌, eqb, ltb, leb, List, [], ◌∷◌, ◌++◌, length, drop, Some, None, Option, sym, refl, ap, ◌∙◌, subst, arith, length-drop}
+use Rattle.std.proofs.Common.{◌≡◌, ℕ, ◌+◌, ◌-◌, ◌<◌, ◌≤◌, Bool, true, false, cond, eqb, ltb, leb, List, [], ◌∷◌, ◌++◌, length, drop, Some, None, sym, refl, ap, ◌∙◌, subst, arith, length-drop}
 use Rattle.std.proofs.lemmas.Bool.{and_parts, and_from, leb-true, lt-ltb, le-leb}
 use Rattle.format.specs.Layout.{entry, methods, parameters, locals, code_address}
 use Rattle.bytecode.specs.declared.instruction.Instruction.{Instruction}
@@ -9,8 +9,8 @@ use Rattle.bytecode.specs.Places.{next}
 use Rattle.verifier.specs.Numbering.{number}
 use Rattle.verifier.proofs.Peaks.{entry_low}
 use Rattle.machine.specs.declared.stop.End.{End}
-use Rattle.machine.specs.Machine.{Frame, State, Fed, fed, with_operands, with_end, execute, call, return_to}
-use Rattle.machine.specs.Go.{top, frame_size, frames_size, frame_need, callee_need, cells_used}
+use Rattle.machine.specs.Machine.{Frame, State, fed, with_operands, with_end, execute, call, return_to}
+use Rattle.machine.specs.Go.{top, frames_size, frame_need, callee_need, cells_used}
 use Rattle.machine.proofs.Doing.{below_peak}
 use Rattle.frames.specs.declared.Frames.{Frames}
 use Rattle.frames.specs.Frames.{running, waiting, alone, called, Laid, Kept, kept_refl}

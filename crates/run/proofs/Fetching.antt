@@ -1,5 +1,5 @@
 -- Which instruction stands at the place, by its bytes. Assumes nothing.
-use Rattle.std.proofs.Common.{◌≡◌, ℕ, ◌+◌, Bool, true, false, cond, not, ◌&&◌, eqb, leb, List, [], length, drop, Some, None, Option, sym, refl, ap, ◌∙◌, subst}
+use Rattle.std.proofs.Common.{◌≡◌, ℕ, ◌+◌, Bool, true, false, cond, not, ◌&&◌, eqb, leb, List, [], length, drop, Some, None, sym, refl, ap, ◌∙◌}
 use Rattle.format.specs.Layout.{byte, be16}
 use Rattle.bytecode.specs.declared.instruction.Instruction.{Instruction}
 use Rattle.bytecode.specs.Opcodes.{rows, find, index_in, number_in, length_of}

@@ -1,5 +1,5 @@
 -- A go so far: where it stands beside the plain machine, and where it ends. Assumes nothing.
-use Rattle.std.proofs.Common.{◌≡◌, ℕ, zero, suc, ◌+◌, ◌-◌, ◌<◌, ◌≤◌, Bool, true, false, cond, eqb, List, [], ◌∷◌, ◌++◌, length, is_some, Some, None, Option, unwrap_or, sym, refl, ap, ◌∙◌, subst, inl, inr, append_assoc, append-nil, add-zero, add_assoc, add-one, arith, length-append}
+use Rattle.std.proofs.Common.{◌≡◌, ℕ, ◌+◌, ◌-◌, ◌<◌, ◌≤◌, Bool, true, false, eqb, List, [], ◌++◌, length, is_some, Some, None, Option, unwrap_or, sym, refl, ap, ◌∙◌, subst, inl, inr, append_assoc, append-nil, add-zero, add-one, arith, length-append}
 use Rattle.std.specs.Option.{option_map}
 use Rattle.std.proofs.lemmas.Bool.{eq-eqb, ne_eqb, cases_lt}
 use Rattle.format.specs.Search.{◌else◌, when}
@@ -8,12 +8,11 @@ use Rattle.machine.specs.declared.stop.Stop.TheVariants.{Ended, Spent}
 use Rattle.machine.specs.declared.stop.End.{End}
 use Rattle.machine.specs.Machine.{State, Fed, fed, step, after}
 use Rattle.machine.specs.Go.{Host, Outcome, next_text, hindrance, stop_at, count, outcome_begun}
-use Rattle.machine.proofs.Wide.{wide, after_last}
+use Rattle.machine.proofs.Wide.{after_last}
 use Rattle.machine.proofs.Counts.{count_is}
 use Rattle.machine.proofs.Regroup.{hindrance_wide}
 use Rattle.run.specs.declared.interpreter.Interpreter.{Interpreter}
 use Rattle.run.specs.Sound.{program, numbers, cells, state_of, sound}
-use Rattle.run.specs.Done.{Kept}
 use Rattle.run.specs.Step.{hindered, Advanced}
 
 -- a go on the file f with the sheet s and n cells that began at the state st with the host h0, and has done j instructions:

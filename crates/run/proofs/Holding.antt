@@ -1,5 +1,5 @@
 -- The cells of a run hold its frames; and main's frame, where it fits, holds what a sound interpreter does. Assumes nothing.
-use Rattle.std.proofs.Common.{◌≡◌, ℕ, ◌+◌, ◌<◌, ◌≤◌, Bool, true, false, cond, leb, List, [], ◌∷◌, length, take, Some, None, Option, sym, refl, ap, ◌∙◌, subst, arith}
+use Rattle.std.proofs.Common.{◌≡◌, ℕ, ◌+◌, ◌<◌, ◌≤◌, true, List, ◌∷◌, length, take, Some, Option, sym, refl, ap, ◌∙◌, subst, arith}
 use Rattle.std.proofs.lemmas.Bool.{and_from, leb-true}
 use Rattle.format.specs.Layout.{entry, parameters, locals}
 use Rattle.verifier.specs.Numbering.{number, Admitted}

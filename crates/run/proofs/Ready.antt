@@ -1,12 +1,12 @@
 -- What a sound interpreter holds, part by part. Assumes nothing.
-use Rattle.std.proofs.Common.{◌≡◌, ℕ, ◌+◌, ◌-◌, ◌<◌, ◌≤◌, Bool, true, false, not, ◌&&◌, eqb, ltb, leb, List, [], ◌∷◌, length, is_some, Some, None, Option, sym, refl, ap, ◌∙◌, subst, arith}
-use Rattle.std.proofs.lemmas.Bool.{and_parts, and_from, not-true, not_from_false, ltb-true, leb-true, eqb-true, lt-ltb, le-leb, eq-eqb}
+use Rattle.std.proofs.Common.{◌≡◌, ℕ, ◌+◌, ◌-◌, Bool, true, not, ◌&&◌, eqb, ltb, leb, List, [], ◌∷◌, length, is_some, Some, None, Option, sym, refl, ap, subst, arith}
+use Rattle.std.proofs.lemmas.Bool.{and_parts, and_from, ltb-true, leb-true, eqb-true, lt-ltb, le-leb, eq-eqb}
 use Rattle.format.specs.Layout.{byte, methods, parameters, locals}
 use Rattle.bytecode.specs.Places.{is_place}
 use Rattle.verifier.specs.Numbering.{number, admit_refusal, Admitted}
 use Rattle.verifier.proofs.Places.{in_is_place, is_place_in}
 use Rattle.machine.specs.Machine.{Frame, State}
-use Rattle.machine.proofs.Invariant.{Good, good_from, Called, Stack, Runs, Sure}
+use Rattle.machine.proofs.Invariant.{Good, good_from, Called, Stack, Sure}
 use Rattle.frames.specs.Frames.{running, waiting, is_laid, Laid}
 use Rattle.frames.proofs.Parts.{laid_from, laid_tested}
 use Rattle.run.specs.declared.interpreter.Interpreter.{Interpreter}

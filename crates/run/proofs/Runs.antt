@@ -1,5 +1,5 @@
 -- What every run holds: its file is admitted with its sheet once it began, and its cells hold its frames. Assumes nothing.
-use Rattle.std.proofs.Common.{◌≡◌, Bool, true, false, cond, Some, None, Option, sym, refl, ap, ◌∙◌}
+use Rattle.std.proofs.Common.{◌≡◌, Bool, true, false, cond, Some, None, sym, refl, ap, ◌∙◌}
 use Rattle.verifier.specs.Numbering.{Admitted}
 use Rattle.machine.specs.Machine.{State}
 use Rattle.run.specs.declared.run.Run.{Run}

@@ -1,5 +1,5 @@
 -- From what is done to the frames to what is done to the plain machine. Assumes nothing.
-use Rattle.std.proofs.Common.{◌≡◌, ℕ, ◌+◌, ◌<◌, ◌≤◌, Bool, true, false, ◌&&◌, eqb, ltb, leb, List, [], ◌∷◌, length, Some, None, Option, sym, refl, ap, ◌∙◌, subst, arith}
+use Rattle.std.proofs.Common.{◌≡◌, ℕ, ◌+◌, ◌<◌, ◌≤◌, Bool, true, false, ◌&&◌, eqb, ltb, leb, List, [], ◌∷◌, length, Some, Option, sym, refl, ap, ◌∙◌, subst, arith}
 use Rattle.std.proofs.lemmas.Bool.{and_parts, leb-true, leb-false, ltb-true, ltb-false}
 use Rattle.format.specs.Layout.{byte, entry, methods, constants, messages, parameters, locals}
 use Rattle.bytecode.specs.declared.instruction.Instruction.{Instruction}
@@ -10,7 +10,7 @@ use Rattle.bytecode.proofs.Accepted.{file_short}
 use Rattle.verifier.specs.Numbering.{number, Admitted}
 use Rattle.machine.specs.declared.stop.End.{End}
 use Rattle.machine.specs.Machine.{Frame, State, Fed, fed, with_operands, continue_at, execute, executed}
-use Rattle.machine.specs.Go.{frame_size, frames_size, frame_need, cells_used}
+use Rattle.machine.specs.Go.{frames_size, frame_need, cells_used}
 use Rattle.machine.proofs.Invariant.{Sure, indexed, varied}
 use Rattle.machine.proofs.Opcodes.{takes_as}
 use Rattle.machine.proofs.Doing.{room_at, below_peak, encoded, next_here, not_awaiting, finds, done}
@@ -19,8 +19,7 @@ use Rattle.frames.specs.Frames.{running, waiting, size, Laid, Kept}
 use Rattle.run.specs.declared.interpreter.Interpreter.{Interpreter}
 use Rattle.run.specs.Sound.{program, numbers, cells, state_of, stands, all_fit, sound}
 use Rattle.run.specs.Done.{Done}
-use Rattle.run.specs.Done as to
-use Rattle.run.proofs.Ready.{Ready, ready, sound_of, good}
+use Rattle.run.proofs.Ready.{ready, sound_of, good}
 
 -- other operands once more
 pub over : (a b : Frame) (w W : List ℕ) → a ≡ with_operands b w → with_operands a W ≡ with_operands b W

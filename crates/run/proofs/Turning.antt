@@ -1,17 +1,17 @@
 -- What hinders the next instruction, by its opcode, and a turn of a go. Assumes nothing.
-use Rattle.std.proofs.Common.{◌≡◌, ℕ, ◌+◌, ◌<◌, ◌≤◌, Bool, true, false, cond, not, ◌&&◌, ◌||◌, eqb, ltb, List, [], ◌∷◌, ◌++◌, length, get_or, is_some, Some, None, Option, unwrap_or, sym, refl, ap, ◌∙◌, subst, append-nil, zero-le, add-zero, zero-add, arith, MatchOption}
+use Rattle.std.proofs.Common.{◌≡◌, ℕ, ◌+◌, ◌<◌, Bool, true, false, cond, ◌&&◌, ◌||◌, eqb, ltb, List, [], ◌∷◌, ◌++◌, length, get_or, is_some, Some, None, Option, unwrap_or, sym, refl, ap, ◌∙◌, append-nil, zero-le, add-zero, zero-add, MatchOption}
 use Rattle.std.proofs.lemmas.Bool.{le-ltb, or_from, not-true, or_parts, and_right}
 use Rattle.format.specs.Search.{◌else◌, when}
 use Rattle.format.specs.Layout.{byte}
 use Rattle.bytecode.specs.declared.instruction.Instruction.{Instruction}
 use Rattle.bytecode.specs.declared.instruction.Instruction.TheVariants.{Invokevirtual, In, Out}
-use Rattle.bytecode.specs.Encoding.{opcode_of, Encodes}
+use Rattle.bytecode.specs.Encoding.{opcode_of}
 use Rattle.bytecode.specs.Places.{next}
 use Rattle.output.specs.Text.{text}
 use Rattle.machine.specs.declared.stop.Stop.{Stop}
 use Rattle.machine.specs.declared.stop.Stop.TheVariants.{NoUnit, NoRoom, StackFull}
-use Rattle.machine.specs.Machine.{Frame, State, Fed, fed, with_operands, continue_at, none_left, execute, awaits_input, idle, executed, step}
-use Rattle.machine.specs.Go.{Host, frames_size, cells_used, callee_need, next_text, hindrance}
+use Rattle.machine.specs.Machine.{State, Fed, fed, with_operands, continue_at, none_left, execute, awaits_input, executed, step}
+use Rattle.machine.specs.Go.{Host, frames_size, cells_used, callee_need, next_text}
 use Rattle.machine.proofs.Invariant.{Sure}
 use Rattle.machine.proofs.Doing.{below_peak, encoded, not_awaiting, done}
 use Rattle.frames.specs.declared.Frames.{Frames}

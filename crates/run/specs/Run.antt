@@ -2,7 +2,7 @@
 use Rattle.std.specs.Prelude.{◌≡◌, ℕ, cond, List, take, Some, None, Option}
 use Rattle.machine.specs.declared.stop.Stop.{Stop}
 use Rattle.machine.specs.Machine.{State}
-use Rattle.machine.specs.Go.{Host, Outcome, top, outcome}
+use Rattle.machine.specs.Go.{Host, top, outcome}
 use Rattle.machine.specs.Cells.{cells_of}
 use Rattle.machine.specs.Rows.{KeepsLevelOn, ReplaysOn}
 use Rattle.run.specs.declared.run.Run.{Run}

@@ -1,7 +1,7 @@
 -- What one turn of a go does to the interpreter and to the host. Assumes nothing.
 use Rattle.std.specs.Prelude.{◌≡◌, ℕ, ◌+◌, true, List, [], ◌++◌, length, Some, None, Option}
 use Rattle.machine.specs.declared.stop.Stop.{Stop}
-use Rattle.machine.specs.Machine.{State, fed, step}
+use Rattle.machine.specs.Machine.{fed, step}
 use Rattle.machine.specs.Go.{Host, next_text, hindrance}
 use Rattle.run.specs.declared.interpreter.Interpreter.{Interpreter}
 use Rattle.run.specs.Sound.{program, numbers, cells, state_of, sound}

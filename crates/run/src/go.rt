@@ -15,9 +15,9 @@ impl<'f, 'p, 's> Interpreter<'f, 'p, 's> {
         requires sound { sound self.old ≡ true }
         ensures sound { sound self.new ≡ true }
         ensures stays { Kept self.old self.new }
-        ensures kept { kept host.old host.new }
+        ensures kept { H.kept host.old host.new }
         ensures still { result.1 ≡ 0 → self.new ≡ self.old }
-        ensures goes { outcome_begun (program self.old) (numbers self.old) (cells self.old) fuel (state_of self.old) (host_of (waiting host.old) (written host.old) (space host.old)) ≡ record { run = Some (state_of self.new); host = host_of (waiting host.new) (written host.new) (space host.new); stop = result.0; counted = result.1 } }
+        ensures goes { outcome_begun (program self.old) (numbers self.old) (cells self.old) fuel (state_of self.old) (host_of (H.waiting host.old) (H.written host.old) (H.space host.old)) ≡ record { run = Some (state_of self.new); host = host_of (H.waiting host.new) (H.written host.new) (H.space host.new); stop = result.0; counted = result.1 } }
     {
         let mut count = 0;
         loop {

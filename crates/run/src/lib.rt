@@ -1,6 +1,7 @@
 //! A run of a program on lent cells: its start, and its gos.
 
 #![tactic(auto)]
+
 mod calls;
 mod ends;
 mod execute;

@@ -96,11 +96,11 @@ impl<'f, 'p, 's> Run<'f, 'p, 's> {
 
     /// Does instructions until something stops it, at most as many as the fuel, and answers the stop and how many it did.
     pub fn go<H: Host>(&mut self, host: &mut H, fuel: u32) -> (Stop, u32)
-        ensures goes { Goes self.old (host_of (waiting host.old) (written host.old) (space host.old)) fuel self.new (host_of (waiting host.new) (written host.new) (space host.new)) result }
+        ensures goes { Goes self.old (host_of (H.waiting host.old) (H.written host.old) (H.space host.old)) fuel self.new (host_of (H.waiting host.new) (H.written host.new) (H.space host.new)) result }
         ensures stays { Stays self.old self.new }
         ensures frames { HoldsFrames self.new }
         ensures still { result.1 ≡ 0 → stack_of self.new ≡ stack_of self.old }
-        ensures kept { kept host.old host.new }
+        ensures kept { H.kept host.old host.new }
     {
         if self.begun {
             return self.go_begun(host, fuel);
@@ -114,11 +114,11 @@ impl<'f, 'p, 's> Run<'f, 'p, 's> {
     /// The same, of a run that began.
     fn go_begun<H: Host>(&mut self, host: &mut H, fuel: u32) -> (Stop, u32)
         requires begun { self.old.begun ≡ true }
-        ensures goes { Goes self.old (host_of (waiting host.old) (written host.old) (space host.old)) fuel self.new (host_of (waiting host.new) (written host.new) (space host.new)) result }
+        ensures goes { Goes self.old (host_of (H.waiting host.old) (H.written host.old) (H.space host.old)) fuel self.new (host_of (H.waiting host.new) (H.written host.new) (H.space host.new)) result }
         ensures stays { Stays self.old self.new }
         ensures frames { HoldsFrames self.new }
         ensures still { result.1 ≡ 0 → stack_of self.new ≡ stack_of self.old }
-        ensures kept { kept host.old host.new }
+        ensures kept { H.kept host.old host.new }
     {
         self.interpreter.go(host, fuel)
     }

@@ -12,9 +12,9 @@ impl<'f, 'p, 's> Interpreter<'f, 'p, 's> {
     pub(crate) fn step<H: Host>(&mut self, host: &mut H) -> Option<Stop>
         requires sound { sound self.old ≡ true }
         requires runs { is_some self.old.ended ≡ false }
-        ensures kept { kept host.old host.new }
-        ensures stop { result ≡ hindered self.old (host_of (waiting host.old) (written host.old) (space host.old)) }
-        ensures turn { Turn self.old (host_of (waiting host.old) (written host.old) (space host.old)) result self.new (host_of (waiting host.new) (written host.new) (space host.new)) }
+        ensures kept { H.kept host.old host.new }
+        ensures stop { result ≡ hindered self.old (host_of (H.waiting host.old) (H.written host.old) (H.space host.old)) }
+        ensures turn { Turn self.old (host_of (H.waiting host.old) (H.written host.old) (H.space host.old)) result self.new (host_of (H.waiting host.new) (H.written host.new) (H.space host.new)) }
     {
         match self.opcode() {
             0xB6 => {

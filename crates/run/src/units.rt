@@ -19,9 +19,9 @@ impl<'f, 'p, 's> Interpreter<'f, 'p, 's> {
         requires sound { sound self.old ≡ true }
         requires here { stands self.old ≡ Some In }
         requires runs { is_some self.old.ended ≡ false }
-        ensures kept { kept host.old host.new }
-        ensures stop { result ≡ hindered self.old (host_of (waiting host.old) (written host.old) (space host.old)) }
-        ensures turn { Turn self.old (host_of (waiting host.old) (written host.old) (space host.old)) result self.new (host_of (waiting host.new) (written host.new) (space host.new)) }
+        ensures kept { H.kept host.old host.new }
+        ensures stop { result ≡ hindered self.old (host_of (H.waiting host.old) (H.written host.old) (H.space host.old)) }
+        ensures turn { Turn self.old (host_of (H.waiting host.old) (H.written host.old) (H.space host.old)) result self.new (host_of (H.waiting host.new) (H.written host.new) (H.space host.new)) }
     {
         let Some(unit) = host.take() else {
             return Some(Stop::NoUnit);
@@ -45,9 +45,9 @@ impl<'f, 'p, 's> Interpreter<'f, 'p, 's> {
         requires sound { sound self.old ≡ true }
         requires here { stands self.old ≡ Some Out }
         requires runs { is_some self.old.ended ≡ false }
-        ensures kept { kept host.old host.new }
-        ensures stop { result ≡ hindered self.old (host_of (waiting host.old) (written host.old) (space host.old)) }
-        ensures turn { Turn self.old (host_of (waiting host.old) (written host.old) (space host.old)) result self.new (host_of (waiting host.new) (written host.new) (space host.new)) }
+        ensures kept { H.kept host.old host.new }
+        ensures stop { result ≡ hindered self.old (host_of (H.waiting host.old) (H.written host.old) (H.space host.old)) }
+        ensures turn { Turn self.old (host_of (H.waiting host.old) (H.written host.old) (H.space host.old)) result self.new (host_of (H.waiting host.new) (H.written host.new) (H.space host.new)) }
     {
         let text = self.next_text();
         if host.room() < text.count() {

@@ -21,10 +21,10 @@ fn go_once<H: Host>(
     fuel: u32,
 ) -> (Stop, u32)
     requires admitted { Is-admitted file.now sheet.now }
-    ensures stop { result.0 ≡ (go_once file.now sheet.now (length cells.old) fuel (host_of (waiting host.old) (written host.old) (space host.old))).stop }
-    ensures count { result.1 ≡ (go_once file.now sheet.now (length cells.old) fuel (host_of (waiting host.old) (written host.old) (space host.old))).counted }
-    ensures written { written host.new ≡ (go_once file.now sheet.now (length cells.old) fuel (host_of (waiting host.old) (written host.old) (space host.old))).host.written }
-    ensures kept { kept host.old host.new }
+    ensures stop { result.0 ≡ (go_once file.now sheet.now (length cells.old) fuel (host_of (H.waiting host.old) (H.written host.old) (H.space host.old))).stop }
+    ensures count { result.1 ≡ (go_once file.now sheet.now (length cells.old) fuel (host_of (H.waiting host.old) (H.written host.old) (H.space host.old))).counted }
+    ensures written { H.written host.new ≡ (go_once file.now sheet.now (length cells.old) fuel (host_of (H.waiting host.old) (H.written host.old) (H.space host.old))).host.written }
+    ensures kept { H.kept host.old host.new }
 {
     let Ok(admitted) = admit(file, sheet) else {
         unreachable()
@@ -42,10 +42,10 @@ pub(crate) fn first_go<H: Host>(
 ) -> (Stop, u32)
     requires admitted { Is-admitted file.now sheet.now }
     requires cells { length cells.old ≡ 2048 }
-    ensures stop { result.0 ≡ (first_go file.now sheet.now (host_of (waiting host.old) (written host.old) (space host.old))).stop }
-    ensures count { result.1 ≡ (first_go file.now sheet.now (host_of (waiting host.old) (written host.old) (space host.old))).counted }
-    ensures written { written host.new ≡ (first_go file.now sheet.now (host_of (waiting host.old) (written host.old) (space host.old))).host.written }
-    ensures kept { kept host.old host.new }
+    ensures stop { result.0 ≡ (first_go file.now sheet.now (host_of (H.waiting host.old) (H.written host.old) (H.space host.old))).stop }
+    ensures count { result.1 ≡ (first_go file.now sheet.now (host_of (H.waiting host.old) (H.written host.old) (H.space host.old))).counted }
+    ensures written { H.written host.new ≡ (first_go file.now sheet.now (host_of (H.waiting host.old) (H.written host.old) (H.space host.old))).host.written }
+    ensures kept { H.kept host.old host.new }
 {
     go_once(file, sheet, cells, host, FUEL)
 }

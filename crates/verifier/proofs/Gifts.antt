@@ -1,5 +1,5 @@
 -- A turn of the worklist as the code takes it: the gifts to the successors, and the room for them. Assumes nothing.
-use Rattle.std.proofs.Common.{◌≡◌, ℕ, ◌<◌, ◌≤◌, Bool, true, false, cond, ltb, List, [], ◌∷◌, length, Some, None, fold, Option, sym, refl, ap, ◌∙◌, subst, arith, length-set}
+use Rattle.std.proofs.Common.{◌≡◌, ℕ, ◌<◌, ◌≤◌, Bool, true, false, cond, ltb, List, [], ◌∷◌, length, Some, None, fold, sym, refl, ap, ◌∙◌, subst, arith}
 use mathlib.Core.List.Memᴰ
 use Rattle.std.proofs.lemmas.Bool.{lt-ltb}
 use Rattle.format.specs.Search.{when}
@@ -13,7 +13,7 @@ use Rattle.verifier.specs.Worklist.{Work, pend_if, pend, turn, turns_left}
 use Rattle.verifier.proofs.Places.{is_place_in}
 use Rattle.verifier.proofs.Rule.{balanced_parts}
 use Rattle.verifier.proofs.Steps.{successor_place}
-use Rattle.verifier.proofs.Turns.{work, pend_ind, pend_room, pend_left}
+use Rattle.verifier.proofs.Turns.{pend_room, pend_left}
 
 -- what the depth after an instruction says, where there is one and where there is none
 some_result : (b : Bool) (d r : ℕ) → Some d ≡ when b r → (b ≡ true) × (d ≡ r)

@@ -1,9 +1,9 @@
 -- The worklist of a method as the code begins it. Assumes nothing.
-use Rattle.std.proofs.Common.{◌≡◌, ℕ, ◌<◌, ◌≤◌, List, [], ◌∷◌, ◌++◌, length, set, sym, refl, ap, ◌∙◌, arith}
+use Rattle.std.proofs.Common.{◌≡◌, ℕ, ◌<◌, ◌≤◌, List, [], ◌∷◌, ◌++◌, length, set, ap, ◌∙◌, arith}
 use Rattle.format.specs.Layout.{methods, code_address}
 use Rattle.format.specs.Parts.{Accepted}
 use Rattle.verifier.specs.declared.pending.Pending.{Pending}
-use Rattle.verifier.specs.Worklist.{Work, turns_left, Spreads, ClosedTo, OnlyMethod}
+use Rattle.verifier.specs.Worklist.{turns_left, Spreads, ClosedTo, OnlyMethod}
 use Rattle.verifier.proofs.Places.{start_inside}
 use Rattle.verifier.proofs.Turns.{work, pending, only_none}
 use Rattle.verifier.proofs.Methods.{loop_begins}

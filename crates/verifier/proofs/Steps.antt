@@ -1,20 +1,19 @@
 -- What the code may read at a place of a file that is ready, and the depth after its instruction. Assumes nothing.
-use Rattle.std.proofs.Common.{◌≡◌, ℕ, ◌+◌, ◌-◌, ◌<◌, ◌≤◌, Bool, true, false, cond, not, ◌&&◌, ◌||◌, eqb, ltb, leb, ◌⊎◌, List, [], ◌∷◌, length, Some, None, Option, sym, refl, ap, ◌∙◌, inl, inr, arith}
+use Rattle.std.proofs.Common.{◌≡◌, ℕ, ◌+◌, ◌-◌, ◌<◌, ◌≤◌, Bool, true, false, cond, ◌&&◌, ◌||◌, eqb, ltb, leb, ◌⊎◌, List, [], ◌∷◌, length, Some, None, sym, refl, ap, ◌∙◌, inl, inr, arith}
 use mathlib.Core.List.Memᴰ
 use Rattle.std.proofs.lemmas.Bool.{both_ways, lt-ltb}
 use Rattle.std.proofs.lemmas.Bool.Decides.{nat_tests}
 use Rattle.format.specs.Search.{all, when}
-use Rattle.format.specs.Layout.{byte, methods, constants, messages, parameters, locals, code_address, code_due, code_size}
+use Rattle.format.specs.Layout.{byte, methods, constants, messages, parameters, locals}
 use Rattle.format.proofs.Sounds.{sound}
 use Rattle.format.proofs.Finds.{In, some_none}
 use Rattle.bytecode.specs.Places.{places, is_place, code_end, next, is, is_jump, jump_target, takes, leaves, successors}
-use Rattle.bytecode.specs.Rules.{bad_index}
 use Rattle.bytecode.proofs.Accepted.{code_room, file_short}
 use Rattle.verifier.specs.Numbering.{number, depth_after, balanced, numbered}
 use Rattle.verifier.specs.Ready.{Ready}
 use Rattle.verifier.specs.Verdicts.{Place}
-use Rattle.verifier.proofs.Places.{point, place_in, is_place_in}
-use Rattle.verifier.proofs.CodeRules.{CodeKept, code_kept}
+use Rattle.verifier.proofs.Places.{place_in, is_place_in}
+use Rattle.verifier.proofs.CodeRules.{code_kept}
 
 -- a successor is the target of a jump, or the next address
 successor_cases : (f : List ℕ) (p q : ℕ) → In q (successors f p) → ((is_jump (byte f p) ≡ true) × (q ≡ jump_target f p)) ⊎ (q ≡ next f p)

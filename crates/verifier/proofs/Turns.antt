@@ -1,5 +1,5 @@
 -- The turns of the worklist: what they keep, that they end, and what they lead to. Assumes nothing.
-use Rattle.std.proofs.Common.{◌≡◌, ℕ, ◌+◌, ◌<◌, ◌≤◌, Bool, true, false, ◌&&◌, eqb, ◌⊎◌, List, [], ◌∷◌, ◌++◌, length, set, fold, count_by, sym, refl, ap, ◌∙◌, subst, inl, inr, arith, length-append, length-set}
+use Rattle.std.proofs.Common.{◌≡◌, ℕ, ◌<◌, ◌≤◌, Bool, true, false, ◌&&◌, eqb, ◌⊎◌, List, [], ◌∷◌, ◌++◌, length, set, fold, count_by, sym, refl, ap, ◌∙◌, subst, inl, inr, arith, length-append, length-set}
 use mathlib.Core.List.Memᴰ
 use Rattle.std.proofs.lemmas.List.Sums.{count_by-le-length}
 use Rattle.std.proofs.lemmas.Bool.{both_ways, eqb-true, eq-eqb, ne_eqb, cases_eq, and_parts, and_from, and_left, and_right, cond-true, cond-false, cond_both}

@@ -1,5 +1,6 @@
 //! The verifier: it numbers each place of a file with the depth of the operand stack there, and holds a sheet of such numbers to their rule.
 #![tactic(auto)]
+
 ghost use Rattle.verifier.specs.Cases.{WorkedCases};
 
 pub mod admit;

@@ -16,8 +16,8 @@ loop-event-preserved c =
     elim c.match-carry.branch [
       | in-Some w ↦ going_with r l es x.event-index x.run x.label x.last x.sum x.invariant _ d c.carry.new.run c.carry.new.label
           (Some (w.in-Some.stop, w.in-Some.count)) w.in-Some.ensures (omega arith) c.match-carry.last c.match-carry.sum w.last-is w.sum-is
-      | in-default w ↦ going_with r l es x.event-index x.run x.label x.last x.sum x.invariant _ d c.carry.new.run c.carry.new.label
-          None w.in-default.ensures (omega arith) c.match-carry.last c.match-carry.sum w.last-is (w.sum-is ∙ sym (add-zero x.sum))
+      | in_default w ↦ going_with r l es x.event-index x.run x.label x.last x.sum x.invariant _ d c.carry.new.run c.carry.new.label
+          None w.in_default.ensures (omega arith) c.match-carry.last c.match-carry.sum w.last-is (w.sum-is ∙ sym (add-zero x.sum))
     ]
 
 pub returns : goal.returns

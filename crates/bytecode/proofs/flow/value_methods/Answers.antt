@@ -9,6 +9,6 @@ loop-k-init c = (refl, λ j l. absurd (omega arith), λ j l. get_or-all false 25
 pub loop-k-preserved : goal.loop-k-preserved
 loop-k-preserved c = (
   search rules,
-  filled_more false (λ j. holds c.args.file.now j 0xAC) c.loop-k.returns-value c.loop-k.k c.holds.result (search rules) c.holds.ensures c.loop-k.invariant.1,
-  rest_kept false (λ j. holds c.args.file.now j 0xAC) c.loop-k.returns-value c.loop-k.k c.holds.result c.loop-k.invariant.2,
+  filled_more false (λ j. holds c.args.file.now j 0xAC) c.loop-k.returns_value c.loop-k.k c.holds.result (search rules) c.holds.ensures c.loop-k.invariant.1,
+  rest_kept false (λ j. holds c.args.file.now j 0xAC) c.loop-k.returns_value c.loop-k.k c.holds.result c.loop-k.invariant.2,
 )

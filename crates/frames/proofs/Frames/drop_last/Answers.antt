@@ -1,4 +1,4 @@
-use Rattle.std.proofs.Common.{◌+◌, ◌-◌, ◌<◌, get_or, drop, sym, refl, ap, arith}
+use Rattle.std.proofs.Common.{◌+◌, ◌<◌, get_or, drop, sym, refl, ap, arith}
 use Rattle.machine.specs.Machine.{with_operands}
 use Rattle.frames.specs.Frames.{running, waiting, variables_of}
 use Rattle.frames.proofs.Parts.{laid_of, some_operand}

@@ -4,8 +4,8 @@ use Rattle.frames.proofs.Parts.{laid_of, operands_below, few_callers, room_above
 use Rattle.frames.proofs.NewFrame.{entered_running, entered_waiting, entered_below, entered_whole}
 use Rattle.frames.proofs.Frames.enter_by.Goals as goal
 
-pub overflow-add-self-3 : goal.overflow-add-self-3
-overflow-add-self-3 c =
+pub overflow_add-self-3 : goal.overflow_add-self-3
+overflow_add-self-3 c =
     let d = few_callers c.args.self.now c.requires.laid in
     search rules
 

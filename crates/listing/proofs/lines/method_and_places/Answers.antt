@@ -12,5 +12,5 @@ joined a b y f g k n m p q r t = words p (ap (λ h. method_line h k n) q ∙ ap 
 pub returns : goal.returns
 returns c =
     IfOk-weaker c.format.result _ (λ s. string_bytes s ≡ method_lines c.args.file.now c.args.sheet.now c.args.index)
-    (λ s e. e ∙ joined _ _ _ c.args.reader.now.bytes.now c.args.file.now c.args.index c.peak-at.result _ c.in-ok-method.ensures c.requires.reads c.peak-at.ensures c.in-ok-places.ensures)
+    (λ s e. e ∙ joined _ _ _ c.args.reader.now.bytes.now c.args.file.now c.args.index c.peak_at.result _ c.in_ok-method.ensures c.requires.reads c.peak_at.ensures c.in_ok-places.ensures)
     c.format.ensures.ok

@@ -11,5 +11,5 @@ words k n a b d x y z p q r = rw (p, q, r)
 pub returns : goal.returns
 returns c =
     IfOk-weaker c.format.result _ (λ s. string_bytes s ≡ method_line c.args.reader.now.bytes.now c.args.index c.args.peak)
-    (λ s e. e ∙ words c.args.index c.args.peak _ _ _ _ _ _ c.in-ok-name.ensures c.in-ok-variables.ensures c.in-ok-code.ensures)
+    (λ s e. e ∙ words c.args.index c.args.peak _ _ _ _ _ _ c.in_ok-name.ensures c.in_ok-variables.ensures c.in_ok-code.ensures)
     c.format.ensures.ok

@@ -5,9 +5,9 @@ use Rattle.listing.proofs.text.shown.Goals as goal
 
 pub loop-rest-preserved : goal.loop-rest-preserved
 loop-rest-preserved c =
-    let front : c.from-be-bytes.result ≡ unit c.loop-rest.rest.now = search rules in
+    let front : c.from_be_bytes.result ≡ unit c.loop-rest.rest.now = search rules in
     let before = string_bytes c.loop-rest.text in
-    shown_more before _ c.loop-rest.rest.now _ (search rules) (c.in-ok-push-unit.ensures ∙ ap (λ u. before ++ shown_unit u) front) c.loop-rest.invariant
+    shown_more before _ c.loop-rest.rest.now _ (search rules) (c.in_ok-push_unit.ensures ∙ ap (λ u. before ++ shown_unit u) front) c.loop-rest.invariant
 
 pub returns : goal.returns
 returns c = search (rules, shown_all)

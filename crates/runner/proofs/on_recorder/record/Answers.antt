@@ -14,14 +14,14 @@ returns c =
     let memory = c.args.bytes.now in
     let a = c.open-recorder.result in
     let o = c.open-recorder.ensures in
-    let g = c.first-go.ensures in
+    let g = c.first_go.ensures in
     let h = host_of (recorder_waiting a) (recorder_written a) (recorder_space a) in
     let h' = new_host (key_units keys) in
     let same : h ≡ h' = opened keys c.used.result.now memory _ _ _ c.used.ensures.bytes c.requires.bytes o.waiting o.written o.space in
-    let held : c.first-go.new.host.memory.now ≡ recorded memory (first_go f s h').host.written =
-    memory_after f s h h' same memory a c.first-go.new.host o.records g.kept g.written in
+    let held : c.first_go.new.host.memory.now ≡ recorded memory (first_go f s h').host.written =
+    memory_after f s h h' same memory a c.first_go.new.host o.records g.kept g.written in
     record {
-      stop = stop_on f s h h' same c.first-go.result.0 g.stop;
-      count = count_on f s h h' same c.first-go.result.1 g.count;
+      stop = stop_on f s h h' same c.first_go.result.0 g.stop;
+      count = count_on f s h h' same c.first_go.result.1 g.count;
       bytes = search rules;
     }

@@ -9,6 +9,6 @@ returns-in-Ok c =
     let f = c.args.file.now in
     let keys = c.args.keys.now in
     let e = c.in-Ok.ensures in
-    IfOk-weaker c.admitted-text.result _ (λ s. string_bytes s ≡ checked_text recorded_text f keys)
-    (λ s w. w ∙ told_checked recorded_text f c.fill-sheet.new.sheet keys e.refuses e.sheet)
-    c.admitted-text.ensures
+    IfOk-weaker c.admitted_text.result _ (λ s. string_bytes s ≡ checked_text recorded_text f keys)
+    (λ s w. w ∙ told_checked recorded_text f c.fill_sheet.new.sheet keys e.refuses e.sheet)
+    c.admitted_text.ensures

@@ -6,9 +6,9 @@ use Rattle.runner.proofs.Went.{counted_within}
 use Rattle.runner.proofs.row.go_in_row.Goals as goal
 
 -- the count is no more than the fuel
-pub overflow-cast-result : goal.overflow-cast-result
-overflow-cast-result c =
+pub overflow_cast-result : goal.overflow_cast-result
+overflow_cast-result c =
     let r = c.args.run.now in
-    let e = ap (λ (x : Row). x.sum) c.carry-out.ensures.row.row in
+    let e = ap (λ (x : Row). x.sum) c.carry_out.ensures.row.row in
     let l = counted_within (file_of r) (sheet_of r) (size_of r) c.args.fuel (seen r) (label_host c.args.label.now) in
     omega (arith, e, l, c.ranges.fuel)

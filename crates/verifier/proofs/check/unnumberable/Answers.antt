@@ -1,4 +1,4 @@
-use Rattle.std.proofs.Common.{◌≡◌, is_some, ap, ◌∙◌}
+use Rattle.std.proofs.Common.{is_some, ap, ◌∙◌}
 use Rattle.format.proofs.Finds.{some_first}
 use Rattle.bytecode.specs.Places.{places}
 use Rattle.verifier.specs.Numbering.{breaks}
@@ -9,5 +9,5 @@ pub returns : goal.returns
 returns c =
     let f = c.args.file.now in
     let s = c.args.sheet.now in
-    c.is-some.ensures ∙ ap is_some c.first-break.ensures ∙ some_first (λ p. breaks f s (record { method = c.args.k; place = p })) (places f c.args.k) ∙
+    c.is_some.ensures ∙ ap is_some c.first_break.ensures ∙ some_first (λ p. breaks f s (record { method = c.args.k; place = p })) (places f c.args.k) ∙
     closed_unnumberable f c.requires.ready.layout c.args.k s c.requires.method (c.requires.complete.closed c.args.k c.requires.method)

@@ -1,21 +1,20 @@
-use Rattle.std.proofs.Common.{rules}
 use Rattle.verifier.proofs.Steps.{place_room, place_short, on_none, on_one, on_two, on_not}
 use Rattle.verifier.proofs.judge.leads_on.Goals as goal
 
 pub successors-requires : goal.successors-requires
 successors-requires c =
     let f = c.args.file.now in
-    let rv = c.args.returns-value.now in
+    let rv = c.args.returns_value.now in
     (place_room f rv c.requires.ready c.args.k c.args.place c.requires.at, place_short f rv c.requires.ready c.args.k c.args.place c.requires.at)
 
 pub returns-in-Nowhere : goal.returns-in-Nowhere
-returns-in-Nowhere c = on_none c.args.file.now c.args.returns-value.now c.requires.ready c.args.k c.args.place c.requires.at c.args.sheet.now c.args.depth _ c.code-range-end.ensures.ends c.in-Nowhere.ensures
+returns-in-Nowhere c = on_none c.args.file.now c.args.returns_value.now c.requires.ready c.args.k c.args.place c.requires.at c.args.sheet.now c.args.depth _ c.code_range-end.ensures.ends c.in-Nowhere.ensures
 
 pub returns-in-One : goal.returns-in-One
-returns-in-One c = on_one c.args.file.now c.args.returns-value.now c.requires.ready c.args.k c.args.place c.requires.at c.args.sheet.now c.args.depth _ c.code-range-end.ensures.ends c.in-One.next c.has-number.result c.in-One.ensures c.has-number.ensures
+returns-in-One c = on_one c.args.file.now c.args.returns_value.now c.requires.ready c.args.k c.args.place c.requires.at c.args.sheet.now c.args.depth _ c.code_range-end.ensures.ends c.in-One.next c.has_number.result c.in-One.ensures c.has_number.ensures
 
-pub returns-then-has-number : goal.returns-then-has-number
-returns-then-has-number c = on_two c.args.file.now c.args.returns-value.now c.requires.ready c.args.k c.args.place c.requires.at c.args.sheet.now c.args.depth _ c.code-range-end.ensures.ends c.in-Two.target c.in-Two.next c.has-number-in-Two.result c.has-number-then-has-number.result c.in-Two.ensures c.has-number-in-Two.ensures c.has-number-then-has-number.ensures c.if-has-number.true
+pub returns-then-has_number : goal.returns-then-has_number
+returns-then-has_number c = on_two c.args.file.now c.args.returns_value.now c.requires.ready c.args.k c.args.place c.requires.at c.args.sheet.now c.args.depth _ c.code_range-end.ensures.ends c.in-Two.target c.in-Two.next c.has_number-in-Two.result c.has_number-then-has_number.result c.in-Two.ensures c.has_number-in-Two.ensures c.has_number-then-has_number.ensures c.if-has_number.true
 
-pub returns-else-has-number : goal.returns-else-has-number
-returns-else-has-number c = on_not c.args.file.now c.args.returns-value.now c.requires.ready c.args.k c.args.place c.requires.at c.args.sheet.now c.args.depth _ c.code-range-end.ensures.ends c.in-Two.target c.in-Two.next c.has-number-in-Two.result c.in-Two.ensures c.has-number-in-Two.ensures c.if-has-number.false
+pub returns-else-has_number : goal.returns-else-has_number
+returns-else-has_number c = on_not c.args.file.now c.args.returns_value.now c.requires.ready c.args.k c.args.place c.requires.at c.args.sheet.now c.args.depth _ c.code_range-end.ensures.ends c.in-Two.target c.in-Two.next c.has_number-in-Two.result c.in-Two.ensures c.has_number-in-Two.ensures c.if-has_number.false

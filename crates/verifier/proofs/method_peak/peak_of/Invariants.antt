@@ -1,6 +1,4 @@
-use Rattle.std.proofs.Common.{◌≡◌, ℕ, ◌-◌, max, cond, fold}
-use mathlib.Core.List.{Memᴰ}
-use Rattle.bytecode.specs.Places.{places}
+use Rattle.std.proofs.Common.{◌≡◌, ◌-◌, max, cond, fold}
 use Rattle.bytecode.proofs.Walks.{left}
 use Rattle.verifier.specs.Numbering.{number, numbered, peak}
 use Rattle.verifier.proofs.method_peak.peak_of.Given as goal

@@ -1,8 +1,6 @@
-use Rattle.std.proofs.Common.{◌≡◌, ℕ, ◌+◌, ◌<◌, Bool, true, false, cond, List, ◌∷◌, sym, refl, ap, ◌∙◌, subst, arith}
+use Rattle.std.proofs.Common.{arith}
 use Rattle.bytecode.specs.declared.instruction.Instruction.TheVariants.{Out}
-use Rattle.frames.specs.Frames.{running, waiting, kept_trans}
-use Rattle.machine.specs.Machine.{execute, fed}
-use Rattle.run.specs.Sound.{program, state_of}
+use Rattle.frames.specs.Frames.{running}
 use Rattle.run.proofs.Turning.{wrote}
 use Rattle.run.proofs.Steps.{frames_laid, place_small, taken}
 use Rattle.run.proofs.interpreter.Interpreter.drop_written.Goals as goal
@@ -10,8 +8,8 @@ use Rattle.run.proofs.interpreter.Interpreter.drop_written.Goals as goal
 pub pop-requires : goal.pop-requires
 pop-requires c = record { laid = frames_laid c.args.self.now c.requires.sound; some = taken c.args.self.now c.requires.sound Out c.requires.here }
 
-pub overflow-add-self : goal.overflow-add-self
-overflow-add-self c = let l = place_small c.args.self.now c.requires.sound in omega arith
+pub overflow_add-self : goal.overflow_add-self
+overflow_add-self c = let l = place_small c.args.self.now c.requires.sound in omega arith
 
 pub returns : goal.returns
 returns c =

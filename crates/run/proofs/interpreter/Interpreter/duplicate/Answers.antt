@@ -1,7 +1,7 @@
-use Rattle.std.proofs.Common.{◌≡◌, ℕ, ◌+◌, ◌<◌, Bool, true, false, cond, List, ◌∷◌, drop, Some, sym, refl, ap, ◌∙◌, subst, arith}
+use Rattle.std.proofs.Common.{◌≡◌, ℕ, true, List, ◌∷◌, Some, sym, refl, ap, ◌∙◌, arith}
 use Rattle.bytecode.specs.Places.{next}
 use Rattle.bytecode.specs.declared.instruction.Instruction.TheVariants.{Dup}
-use Rattle.frames.specs.Frames.{running, kept_refl, kept_trans}
+use Rattle.frames.specs.Frames.{running, kept_refl}
 use Rattle.machine.specs.Machine.{execute, fed, continue_at, with_operands}
 use Rattle.run.specs.Sound.{program, stands, state_of, sound}
 use Rattle.run.proofs.Steps.{frames_laid, place_small, taken, free_cell, proceeded, Proceeds}
@@ -26,8 +26,8 @@ push-requires c =
           (twice m c.requires.sound c.requires.here c.last-value.result _ c.last-value.ensures);
     }
 
-pub overflow-add-self : goal.overflow-add-self
-overflow-add-self c = let l = place_small c.args.self.now c.requires.sound in omega arith
+pub overflow_add-self : goal.overflow_add-self
+overflow_add-self c = let l = place_small c.args.self.now c.requires.sound in omega arith
 
 pub returns : goal.returns
 returns c =

@@ -1,19 +1,15 @@
-use Rattle.std.proofs.Common.{◌≡◌, ℕ, ◌+◌, ◌<◌, Bool, true, false, cond, List, ◌∷◌, sym, refl, ap, ◌∙◌, subst, arith}
+use Rattle.std.proofs.Common.{ℕ, List, refl, ap, ◌∙◌, arith}
 use Rattle.format.specs.Layout.{code_address}
 use Rattle.format.specs.declared.layout.MethodEntry.{MethodEntry}
-use Rattle.bytecode.specs.declared.instruction.Instruction.TheVariants.{Invokevirtual}
-use Rattle.frames.specs.Frames.{running, waiting, kept_trans}
-use Rattle.machine.specs.Machine.{execute, fed}
-use Rattle.run.specs.Sound.{program, state_of}
 use Rattle.run.proofs.Calling.{enough, room, entered}
 use Rattle.run.proofs.Steps.{frames_laid, place_small}
 use Rattle.run.proofs.interpreter.Interpreter.enter.Goals as goal
 
-pub overflow-add-back : goal.overflow-add-back
-overflow-add-back c = let l = place_small c.args.self.now c.requires.sound in omega arith
+pub overflow_add-back : goal.overflow_add-back
+overflow_add-back c = let l = place_small c.args.self.now c.requires.sound in omega arith
 
-pub overflow-cast-back : goal.overflow-cast-back
-overflow-cast-back c = let l = place_small c.args.self.now c.requires.sound in omega arith
+pub overflow_cast-back : goal.overflow_cast-back
+overflow_cast-back c = let l = place_small c.args.self.now c.requires.sound in omega arith
 
 pub enter-requires : goal.enter-requires
 enter-requires c =
@@ -29,4 +25,4 @@ returns c =
     let m = c.args.self.now in
     let u = c.enter.ensures in
     entered m c.requires.sound c.args.index c.requires.here c.requires.fits c.enter.new.self _ refl u.kept u.laid u.running u.waiting
-    _ (ap (λ (x : MethodEntry). x.code) c.method-entry.ensures ∙ ap (λ (g : List ℕ). code_address g c.args.index) u.kept.same_file)
+    _ (ap (λ (x : MethodEntry). x.code) c.method_entry.ensures ∙ ap (λ (g : List ℕ). code_address g c.args.index) u.kept.same_file)

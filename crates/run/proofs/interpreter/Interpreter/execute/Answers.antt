@@ -7,17 +7,17 @@ use Rattle.run.specs.Done.{is_free}
 use Rattle.run.proofs.Fetching.{standing, standing_index, standing_number, standing_both, has_opcode}
 use Rattle.run.proofs.interpreter.Interpreter.execute.Goals as goal
 
-pub do-nothing-requires : goal.do-nothing-requires
-do-nothing-requires c = record { sound = c.requires.sound; here = standing c.args.self.now c.requires.sound 0x00 (sym c.in-0.is ∙ c.requires.here) }
+pub do_nothing-requires : goal.do_nothing-requires
+do_nothing-requires c = record { sound = c.requires.sound; here = standing c.args.self.now c.requires.sound 0x00 (sym c.in-0.is ∙ c.requires.here) }
 
 pub widen-requires : goal.widen-requires
 widen-requires c = record { sound = c.requires.sound; here = standing c.args.self.now c.requires.sound 0xC4 (sym c.in-196.is ∙ c.requires.here) }
 
-pub push-number-requires : goal.push-number-requires
-push-number-requires c = record { sound = c.requires.sound; here = standing_number c.args.self.now c.requires.sound 0x10 (sym c.in-16.is ∙ c.requires.here) Bipush refl _ c.number.ensures }
+pub push_number-requires : goal.push_number-requires
+push_number-requires c = record { sound = c.requires.sound; here = standing_number c.args.self.now c.requires.sound 0x10 (sym c.in-16.is ∙ c.requires.here) Bipush refl _ c.number.ensures }
 
-pub load-constant-requires : goal.load-constant-requires
-load-constant-requires c = record { sound = c.requires.sound; here = standing_index c.args.self.now c.requires.sound 0x12 (sym c.in-18.is ∙ c.requires.here) Ldc refl _ c.index.ensures }
+pub load_constant-requires : goal.load_constant-requires
+load_constant-requires c = record { sound = c.requires.sound; here = standing_index c.args.self.now c.requires.sound 0x12 (sym c.in-18.is ∙ c.requires.here) Ldc refl _ c.index.ensures }
 
 pub load-requires : goal.load-requires
 load-requires c = record { sound = c.requires.sound; here = standing_index c.args.self.now c.requires.sound 0x15 (sym c.in-21.is ∙ c.requires.here) Iload refl _ c.index-in-21.ensures }
@@ -47,37 +47,37 @@ pub or-requires : goal.or-requires
 or-requires c = record { sound = c.requires.sound; here = standing c.args.self.now c.requires.sound 0x80 (sym c.in-128.is ∙ c.requires.here) }
 
 pub increment-requires : goal.increment-requires
-increment-requires c = record { sound = c.requires.sound; here = standing_both c.args.self.now c.requires.sound 0x84 (sym c.in-132.is ∙ c.requires.here) Iinc refl _ _ c.index-in-132.ensures c.number-after-index.ensures }
+increment-requires c = record { sound = c.requires.sound; here = standing_both c.args.self.now c.requires.sound 0x84 (sym c.in-132.is ∙ c.requires.here) Iinc refl _ _ c.index-in-132.ensures c.number_after_index.ensures }
 
-pub jump-if-zero-requires : goal.jump-if-zero-requires
-jump-if-zero-requires c = record { sound = c.requires.sound; here = standing_number c.args.self.now c.requires.sound 0x99 (sym c.in-153.is ∙ c.requires.here) Ifeq refl _ c.number-in-153.ensures }
+pub jump_if_zero-requires : goal.jump_if_zero-requires
+jump_if_zero-requires c = record { sound = c.requires.sound; here = standing_number c.args.self.now c.requires.sound 0x99 (sym c.in-153.is ∙ c.requires.here) Ifeq refl _ c.number-in-153.ensures }
 
-pub jump-if-negative-requires : goal.jump-if-negative-requires
-jump-if-negative-requires c = record { sound = c.requires.sound; here = standing_number c.args.self.now c.requires.sound 0x9B (sym c.in-155.is ∙ c.requires.here) Iflt refl _ c.number-in-155.ensures }
+pub jump_if_negative-requires : goal.jump_if_negative-requires
+jump_if_negative-requires c = record { sound = c.requires.sound; here = standing_number c.args.self.now c.requires.sound 0x9B (sym c.in-155.is ∙ c.requires.here) Iflt refl _ c.number-in-155.ensures }
 
-pub jump-if-equal-requires : goal.jump-if-equal-requires
-jump-if-equal-requires c = record { sound = c.requires.sound; here = standing_number c.args.self.now c.requires.sound 0x9F (sym c.in-159.is ∙ c.requires.here) IfIcmpeq refl _ c.number-in-159.ensures }
+pub jump_if_equal-requires : goal.jump_if_equal-requires
+jump_if_equal-requires c = record { sound = c.requires.sound; here = standing_number c.args.self.now c.requires.sound 0x9F (sym c.in-159.is ∙ c.requires.here) IfIcmpeq refl _ c.number-in-159.ensures }
 
 pub jump-requires : goal.jump-requires
 jump-requires c = record { sound = c.requires.sound; here = standing_number c.args.self.now c.requires.sound 0xA7 (sym c.in-167.is ∙ c.requires.here) Goto refl _ c.number-in-167.ensures }
 
-pub give-back-value-requires : goal.give-back-value-requires
-give-back-value-requires c = record { sound = c.requires.sound; here = standing c.args.self.now c.requires.sound 0xAC (sym c.in-172.is ∙ c.requires.here) }
+pub give_back_value-requires : goal.give_back_value-requires
+give_back_value-requires c = record { sound = c.requires.sound; here = standing c.args.self.now c.requires.sound 0xAC (sym c.in-172.is ∙ c.requires.here) }
 
-pub give-back-requires : goal.give-back-requires
-give-back-requires c = record { sound = c.requires.sound; here = standing c.args.self.now c.requires.sound 0xB1 (sym c.in-177.is ∙ c.requires.here) }
+pub give_back-requires : goal.give_back-requires
+give_back-requires c = record { sound = c.requires.sound; here = standing c.args.self.now c.requires.sound 0xB1 (sym c.in-177.is ∙ c.requires.here) }
 
 pub fail-requires : goal.fail-requires
 fail-requires c = record { sound = c.requires.sound; here = standing_index c.args.self.now c.requires.sound 0xF2 (sym c.in-242.is ∙ c.requires.here) Err refl _ c.index-in-242.ensures }
 
-pub set-mode-requires : goal.set-mode-requires
-set-mode-requires c = record { sound = c.requires.sound; here = standing_index c.args.self.now c.requires.sound 0xFA (sym c.in-250.is ∙ c.requires.here) Setout refl _ c.index-in-250.ensures }
+pub set_mode-requires : goal.set_mode-requires
+set_mode-requires c = record { sound = c.requires.sound; here = standing_index c.args.self.now c.requires.sound 0xFA (sym c.in-250.is ∙ c.requires.here) Setout refl _ c.index-in-250.ensures }
 
 pub halt-requires : goal.halt-requires
 halt-requires c = record { sound = c.requires.sound; here = standing c.args.self.now c.requires.sound 0xFF (sym c.in-255.is ∙ c.requires.here) }
 
 -- no opcode is left
-other : (c : goal.In-default) (i : Instruction) → opcode_of i ≡ c.args.opcode → ⊥
+other : (c : goal.In_default) (i : Instruction) → opcode_of i ≡ c.args.opcode → ⊥
 other c Nop e = search rules
 other c Wide e = search rules
 other c (Bipush k) e = search rules

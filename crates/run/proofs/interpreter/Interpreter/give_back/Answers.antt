@@ -1,21 +1,19 @@
-use Rattle.std.proofs.Common.{◌≡◌, ℕ, ◌+◌, ◌<◌, Bool, true, false, cond, List, [], ◌∷◌, sym, refl, ap, ◌∙◌, subst, arith}
+use Rattle.std.proofs.Common.{[], sym, refl}
 use Rattle.machine.specs.declared.stop.End.TheVariants as ending
 use Rattle.bytecode.specs.declared.instruction.Instruction.TheVariants.{Return}
-use Rattle.frames.specs.Frames.{running, waiting, kept_trans}
-use Rattle.machine.specs.Machine.{execute, fed}
-use Rattle.run.specs.Sound.{program, state_of}
+use Rattle.frames.specs.Frames.{running, waiting}
 use Rattle.run.proofs.Calling.{ended_by, resumed}
 use Rattle.run.proofs.Steps.{frames_laid}
 use Rattle.run.proofs.interpreter.Interpreter.give_back.Goals as goal
 
-pub is-only-requires : goal.is-only-requires
-is-only-requires c = record { laid = frames_laid c.args.self.now c.requires.sound }
+pub is_only-requires : goal.is_only-requires
+is_only-requires c = record { laid = frames_laid c.args.self.now c.requires.sound }
 
-pub returns-then-is-only : goal.returns-then-is-only
-returns-then-is-only c = ended_by c.args.self.now c.requires.sound Return c.requires.here refl ending.Plain [] (λ us vs. refl) (sym c.if-is-only.ensures)
+pub returns-then-is_only : goal.returns-then-is_only
+returns-then-is_only c = ended_by c.args.self.now c.requires.sound Return c.requires.here refl ending.Plain [] (λ us vs. refl) (sym c.if-is_only.ensures)
 
 pub leave-requires : goal.leave-requires
-leave-requires c = record { laid = frames_laid c.args.self.now c.requires.sound; callers = sym c.if-is-only.ensures }
+leave-requires c = record { laid = frames_laid c.args.self.now c.requires.sound; callers = sym c.if-is_only.ensures }
 
 pub returns : goal.returns
 returns c =

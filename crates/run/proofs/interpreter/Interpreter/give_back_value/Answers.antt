@@ -1,4 +1,4 @@
-use Rattle.std.proofs.Common.{◌≡◌, ℕ, ◌+◌, ◌<◌, Bool, true, false, cond, List, [], ◌∷◌, sym, refl, ap, ◌∙◌, subst, arith}
+use Rattle.std.proofs.Common.{ℕ, ◌<◌, [], ◌∷◌, sym, refl, ap, subst}
 use Rattle.machine.specs.declared.stop.End.TheVariants as ending
 use Rattle.machine.specs.Go.{frames_size, cells_used}
 use Rattle.bytecode.specs.declared.instruction.Instruction.TheVariants.{Ireturn}
@@ -12,17 +12,17 @@ use Rattle.run.proofs.interpreter.Interpreter.give_back_value.Goals as goal
 pub last-value-requires : goal.last-value-requires
 last-value-requires c = record { laid = frames_laid c.args.self.now c.requires.sound; some = taken c.args.self.now c.requires.sound Ireturn c.requires.here }
 
-pub is-only-requires : goal.is-only-requires
-is-only-requires c = record { laid = frames_laid c.args.self.now c.requires.sound }
+pub is_only-requires : goal.is_only-requires
+is_only-requires c = record { laid = frames_laid c.args.self.now c.requires.sound }
 
-pub returns-then-is-only : goal.returns-then-is-only
-returns-then-is-only c =
+pub returns-then-is_only : goal.returns-then-is_only
+returns-then-is_only c =
     let m = c.args.self.now in
     let v = c.last-value.result in
-    ended_by m c.requires.sound Ireturn c.requires.here refl (ending.Value v) (v ∷ []) (λ us vs. ap (execute (program m) (fed (state_of m) us vs) Ireturn) c.last-value.ensures) (sym c.if-is-only.ensures)
+    ended_by m c.requires.sound Ireturn c.requires.here refl (ending.Value v) (v ∷ []) (λ us vs. ap (execute (program m) (fed (state_of m) us vs) Ireturn) c.last-value.ensures) (sym c.if-is_only.ensures)
 
 pub leave-requires : goal.leave-requires
-leave-requires c = record { laid = frames_laid c.args.self.now c.requires.sound; callers = sym c.if-is-only.ensures }
+leave-requires c = record { laid = frames_laid c.args.self.now c.requires.sound; callers = sym c.if-is_only.ensures }
 
 pub push-requires : goal.push-requires
 push-requires c =

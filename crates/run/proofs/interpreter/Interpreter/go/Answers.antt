@@ -1,4 +1,4 @@
-use Rattle.std.proofs.Common.{◌≡◌, true, sym, ap, ◌∙◌, subst, arith}
+use Rattle.std.proofs.Common.{◌≡◌, true, sym, ◌∙◌, subst, arith}
 use Rattle.frames.specs.Frames.{kept_trans}
 use Rattle.run.specs.declared.interpreter.Interpreter.{Interpreter}
 use Rattle.run.specs.Sound.{program, numbers, cells, state_of, sound}
@@ -36,7 +36,7 @@ returns-then-count-fuel g c =
       stays = i.1;
       kept = i.2;
       still = i.3;
-      goes = going_ends (program m0) (numbers m0) (cells m0) c.args.fuel (state_of m0) h0 j m h i.0 _ (spent_reason c.args.fuel j m h c.in-default.is c.if-count-fuel.true);
+      goes = going_ends (program m0) (numbers m0) (cells m0) c.args.fuel (state_of m0) h0 j m h i.0 _ (spent_reason c.args.fuel j m h c.in_default.is c.if-count-fuel.true);
     }
 
 pub returns-in-Some-step : goal.returns-in-Some-step
@@ -56,7 +56,7 @@ returns-in-Some-step g c =
       kept = g.H.Host.kept_trans _ _ _ i.2 t.kept;
       still = λ e. t.turn.0 ∙ i.3 e;
       goes = going_halts (program m0) (numbers m0) (cells m0) c.args.fuel (state_of m0) h0 j m h i.0 c.in-Some-step.stop
-          (other_reason c.args.fuel j m h _ c.in-default.is c.if-count-fuel.false t.stop) m' h' t.turn.0 t.turn.1;
+          (other_reason c.args.fuel j m h _ c.in_default.is c.if-count-fuel.false t.stop) m' h' t.turn.0 t.turn.1;
     }
 
 pub loop-self-preserved : goal.loop-self-preserved
@@ -69,9 +69,9 @@ loop-self-preserved g c =
     let i = c.loop-self.invariant in
     let m' = c.step.new.self in
     let h' = host_of (g.H.Host.waiting c.step.new.host) (g.H.Host.written c.step.new.host) (g.H.Host.space c.step.new.host) in
-    let t = c.in-default-step.ensures in (
+    let t = c.in_default-step.ensures in (
       going_on (program m0) (numbers m0) (cells m0) c.args.fuel (state_of m0) h0 j m h i.0
-          (other_reason c.args.fuel j m h _ c.in-default.is c.if-count-fuel.false t.stop) c.if-count-fuel.false m' h' t.turn,
+          (other_reason c.args.fuel j m h _ c.in_default.is c.if-count-fuel.false t.stop) c.if-count-fuel.false m' h' t.turn,
       record { frames = kept_trans _ _ _ i.1.frames t.turn.kept.frames; sheet = t.turn.kept.sheet ∙ i.1.sheet },
       g.H.Host.kept_trans _ _ _ i.2 t.kept,
       λ e. absurd (omega (arith, e)),

@@ -1,4 +1,4 @@
-use Rattle.std.proofs.Common.{◌≡◌, ℕ, ◌+◌, ◌<◌, Bool, true, false, cond, List, ◌∷◌, sym, refl, ap, ◌∙◌, subst, arith}
+use Rattle.std.proofs.Common.{refl}
 use Rattle.machine.specs.declared.stop.End.TheVariants as ending
 use Rattle.run.proofs.Ready.{ready}
 use Rattle.bytecode.specs.declared.instruction.Instruction.TheVariants.{Halt}

@@ -1,9 +1,9 @@
-use Rattle.std.proofs.Common.{◌≡◌, ℕ, ◌+◌, ◌<◌, Bool, true, false, cond, ltb, List, ◌∷◌, length, get_or, set, Some, None, Option, sym, refl, ap, ◌∙◌, subst, arith}
+use Rattle.std.proofs.Common.{◌≡◌, ℕ, ◌+◌, ◌<◌, Bool, true, cond, length, get_or, Some, None, sym, refl, ap, ◌∙◌, subst, arith}
 use Rattle.std.proofs.lemmas.Bool.{lt-ltb}
 use Rattle.bytecode.specs.Places.{next}
 use Rattle.bytecode.specs.declared.instruction.Instruction.TheVariants.{Iinc}
-use Rattle.frames.specs.Frames.{running, kept_trans}
-use Rattle.machine.specs.Machine.{Fed, execute, fed, wrap, store, with_variable, continue_at}
+use Rattle.frames.specs.Frames.{running}
+use Rattle.machine.specs.Machine.{Fed, fed, wrap, store, with_variable, continue_at}
 use Rattle.run.specs.Sound.{program, stands, state_of, sound}
 use Rattle.run.specs.declared.interpreter.Interpreter.{Interpreter}
 use Rattle.run.proofs.Steps.{frames_laid, place_small, code, variable_there, next_is, continued, Executes}
@@ -27,8 +27,8 @@ load-value-requires c = record { laid = frames_laid c.args.self.now c.requires.s
 pub store-requires : goal.store-requires
 store-requires c = record { laid = frames_laid c.args.self.now c.requires.sound; inside = inside c.args.self.now c.requires.sound c.args.index c.args.number c.requires.here }
 
-pub overflow-add-self : goal.overflow-add-self
-overflow-add-self c = let l = place_small c.args.self.now c.requires.sound in omega arith
+pub overflow_add-self : goal.overflow_add-self
+overflow_add-self c = let l = place_small c.args.self.now c.requires.sound in omega arith
 
 pub returns : goal.returns
 returns c =

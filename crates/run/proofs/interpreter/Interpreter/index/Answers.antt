@@ -2,8 +2,8 @@ use Rattle.std.proofs.Common.{arith}
 use Rattle.run.proofs.Steps.{place_room, place_small}
 use Rattle.run.proofs.interpreter.Interpreter.index.Goals as goal
 
-pub overflow-add-result : goal.overflow-add-result
-overflow-add-result c = let l = place_small c.args.self.now c.requires.sound in omega arith
+pub overflow_add-result : goal.overflow_add-result
+overflow_add-result c = let l = place_small c.args.self.now c.requires.sound in omega arith
 
 pub bounds-self-self : goal.bounds-self-self
 bounds-self-self c = let l = place_room c.args.self.now c.requires.sound in omega arith

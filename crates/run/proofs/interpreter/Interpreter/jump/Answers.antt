@@ -1,8 +1,6 @@
-use Rattle.std.proofs.Common.{◌≡◌, ℕ, ◌+◌, ◌<◌, Bool, true, false, cond, List, ◌∷◌, sym, refl, ap, ◌∙◌, subst, arith}
+use Rattle.std.proofs.Common.{refl, arith}
 use Rattle.bytecode.specs.declared.instruction.Instruction.TheVariants.{Goto}
 use Rattle.frames.specs.Frames.{running, kept_refl}
-use Rattle.machine.specs.Machine.{execute, fed}
-use Rattle.run.specs.Sound.{program, state_of}
 use Rattle.run.proofs.Steps.{frames_laid, place_small, continued}
 use Rattle.run.proofs.interpreter.Interpreter.jump.Goals as goal
 

@@ -1,7 +1,6 @@
-use Rattle.std.proofs.Common.{◌≡◌, ℕ, ◌+◌, ◌<◌, Bool, true, false, cond, eqb, leb, List, ◌∷◌, sym, refl, ap, ◌∙◌, subst, arith}
+use Rattle.std.proofs.Common.{ℕ, cond, eqb, sym, refl, ap, ◌∙◌, arith}
 use Rattle.bytecode.specs.Opcodes.{target}
 use Rattle.bytecode.specs.declared.instruction.Instruction.TheVariants.{Ifeq}
-use Rattle.frames.specs.Frames.{running}
 use Rattle.machine.specs.Machine.{execute, fed}
 use Rattle.run.specs.Sound.{program, state_of}
 use Rattle.run.proofs.Steps.{frames_laid, place_small, taken, next_is, continued}

@@ -1,8 +1,8 @@
-use Rattle.std.proofs.Common.{◌≡◌, ℕ, ◌+◌, ◌<◌, Bool, true, false, cond, ltb, List, ◌∷◌, length, get_or, set, Some, None, Option, sym, refl, ap, ◌∙◌, subst, arith}
+use Rattle.std.proofs.Common.{◌≡◌, ℕ, ◌<◌, Bool, true, cond, ◌∷◌, length, get_or, Some, None, sym, refl, ap, ◌∙◌, subst, arith}
 use Rattle.std.proofs.lemmas.Bool.{lt-ltb}
 use Rattle.bytecode.specs.declared.instruction.Instruction.TheVariants.{Iload}
-use Rattle.frames.specs.Frames.{running, kept_refl, kept_trans}
-use Rattle.machine.specs.Machine.{Fed, execute, fed, proceed}
+use Rattle.frames.specs.Frames.{running, kept_refl}
+use Rattle.machine.specs.Machine.{Fed, fed, proceed}
 use Rattle.run.specs.Sound.{program, stands, state_of, sound}
 use Rattle.run.specs.declared.interpreter.Interpreter.{Interpreter}
 use Rattle.run.proofs.Steps.{frames_laid, place_small, code, variable_there, free_cell, proceeded, Proceeds}
@@ -32,8 +32,8 @@ push-requires c =
           (pushes m c.requires.sound c.args.index c.load-value.result c.requires.here c.load-value.ensures);
     }
 
-pub overflow-add-self : goal.overflow-add-self
-overflow-add-self c = let l = place_small c.args.self.now c.requires.sound in omega arith
+pub overflow_add-self : goal.overflow_add-self
+overflow_add-self c = let l = place_small c.args.self.now c.requires.sound in omega arith
 
 pub returns : goal.returns
 returns c =

@@ -1,9 +1,9 @@
-use Rattle.std.proofs.Common.{◌≡◌, ℕ, ◌+◌, ◌<◌, Bool, true, false, cond, ltb, List, ◌∷◌, length, get_or, set, Some, None, Option, sym, refl, ap, ◌∙◌, subst, arith}
+use Rattle.std.proofs.Common.{◌≡◌, ℕ, ◌<◌, Bool, true, cond, ◌∷◌, Some, None, sym, refl, ap, ◌∙◌, subst, arith}
 use Rattle.std.proofs.lemmas.Bool.{lt-ltb}
 use Rattle.format.specs.Layout.{be16, constants, constant_address}
 use Rattle.bytecode.specs.declared.instruction.Instruction.TheVariants.{Ldc}
-use Rattle.frames.specs.Frames.{running, kept_refl, kept_trans}
-use Rattle.machine.specs.Machine.{Fed, execute, fed, proceed}
+use Rattle.frames.specs.Frames.{running, kept_refl}
+use Rattle.machine.specs.Machine.{Fed, fed, proceed}
 use Rattle.run.specs.Sound.{program, stands, state_of, sound}
 use Rattle.run.specs.declared.interpreter.Interpreter.{Interpreter}
 use Rattle.run.proofs.Ready.{ready, good}
@@ -40,8 +40,8 @@ push-requires c =
           (pushes m c.requires.sound c.args.index c.constant-value.result c.requires.here c.constant-value.ensures);
     }
 
-pub overflow-add-self : goal.overflow-add-self
-overflow-add-self c = let l = place_small c.args.self.now c.requires.sound in omega arith
+pub overflow_add-self : goal.overflow_add-self
+overflow_add-self c = let l = place_small c.args.self.now c.requires.sound in omega arith
 
 pub returns : goal.returns
 returns c =

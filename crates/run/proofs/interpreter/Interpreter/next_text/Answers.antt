@@ -1,8 +1,5 @@
-use Rattle.std.proofs.Common.{◌≡◌, ℕ, ◌+◌, ◌<◌, Bool, true, false, cond, List, ◌∷◌, sym, refl, ap, ◌∙◌, subst, arith}
+use Rattle.std.proofs.Common.{◌∙◌}
 use Rattle.bytecode.specs.declared.instruction.Instruction.TheVariants.{Out}
-use Rattle.frames.specs.Frames.{running, waiting, kept_trans}
-use Rattle.machine.specs.Machine.{execute, fed}
-use Rattle.run.specs.Sound.{program, state_of}
 use Rattle.run.proofs.Turning.{writes_text}
 use Rattle.run.proofs.Steps.{frames_laid, taken}
 use Rattle.run.proofs.interpreter.Interpreter.next_text.Goals as goal

@@ -1,5 +1,5 @@
 use Rattle.std.proofs.Common.{arith}
-use Rattle.run.proofs.Steps.{place_room, place_small}
+use Rattle.run.proofs.Steps.{place_room}
 use Rattle.run.proofs.interpreter.Interpreter.opcode.Goals as goal
 
 pub bounds-self-self : goal.bounds-self-self

@@ -1,6 +1,6 @@
-use Rattle.std.proofs.Common.{◌≡◌, ℕ, ◌+◌, ◌<◌, List, ◌∷◌, sym, refl, ap, ◌∙◌, subst, arith}
+use Rattle.std.proofs.Common.{refl, ap, arith}
 use Rattle.bytecode.specs.declared.instruction.Instruction.TheVariants.{Pop}
-use Rattle.frames.specs.Frames.{running, kept_refl, kept_trans}
+use Rattle.frames.specs.Frames.{running}
 use Rattle.machine.specs.Machine.{execute, fed}
 use Rattle.run.specs.Sound.{program, state_of}
 use Rattle.run.proofs.Steps.{frames_laid, place_small, taken, proceeded}
@@ -9,8 +9,8 @@ use Rattle.run.proofs.interpreter.Interpreter.pop.Goals as goal
 pub pop-requires : goal.pop-requires
 pop-requires c = record { laid = frames_laid c.args.self.now c.requires.sound; some = taken c.args.self.now c.requires.sound Pop c.requires.here }
 
-pub overflow-add-self : goal.overflow-add-self
-overflow-add-self c = let l = place_small c.args.self.now c.requires.sound in omega arith
+pub overflow_add-self : goal.overflow_add-self
+overflow_add-self c = let l = place_small c.args.self.now c.requires.sound in omega arith
 
 pub returns : goal.returns
 returns c =

@@ -1,8 +1,4 @@
-use Rattle.std.proofs.Common.{◌≡◌, ℕ, ◌+◌, ◌<◌, Bool, true, false, cond, List, ◌∷◌, sym, refl, ap, ◌∙◌, subst, arith}
-use Rattle.bytecode.specs.declared.instruction.Instruction.TheVariants.{In}
-use Rattle.frames.specs.Frames.{running, waiting, kept_trans}
-use Rattle.machine.specs.Machine.{execute, fed}
-use Rattle.run.specs.Sound.{program, state_of}
+use Rattle.std.proofs.Common.{arith}
 use Rattle.run.proofs.Turning.{unit_room, took}
 use Rattle.run.proofs.Steps.{frames_laid, place_small}
 use Rattle.run.proofs.interpreter.Interpreter.push_unit.Goals as goal
@@ -12,8 +8,8 @@ push-requires c =
     let m = c.args.self.now in
     record { laid = frames_laid m c.requires.sound; room = unit_room m c.requires.sound c.requires.here c.args.unit }
 
-pub overflow-add-self : goal.overflow-add-self
-overflow-add-self c = let l = place_small c.args.self.now c.requires.sound in omega arith
+pub overflow_add-self : goal.overflow_add-self
+overflow_add-self c = let l = place_small c.args.self.now c.requires.sound in omega arith
 
 pub returns : goal.returns
 returns c =

@@ -1,4 +1,4 @@
-use Rattle.std.proofs.Common.{◌≡◌, ℕ, ◌+◌, ◌<◌, Bool, true, false, cond, ltb, List, ◌∷◌, Some, None, Option, sym, refl, ap, ◌∙◌, subst, arith}
+use Rattle.std.proofs.Common.{ℕ, ◌<◌, Bool, cond, None, sym, refl, ap, subst, arith}
 use Rattle.std.proofs.lemmas.Bool.{lt-ltb}
 use Rattle.bytecode.specs.Places.{next}
 use Rattle.run.proofs.Ready.{ready}
@@ -9,8 +9,8 @@ use Rattle.run.specs.Sound.{program, state_of}
 use Rattle.run.proofs.Steps.{frames_laid, place_small, code, mode_there, next_is, finished}
 use Rattle.run.proofs.interpreter.Interpreter.set_mode.Goals as goal
 
-pub overflow-add-self : goal.overflow-add-self
-overflow-add-self c = let l = place_small c.args.self.now c.requires.sound in omega arith
+pub overflow_add-self : goal.overflow_add-self
+overflow_add-self c = let l = place_small c.args.self.now c.requires.sound in omega arith
 
 pub returns : goal.returns
 returns c =

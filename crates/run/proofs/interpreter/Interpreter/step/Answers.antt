@@ -10,12 +10,12 @@ pub call-requires : goal.call-requires
 call-requires g c =
     record { sound = c.requires.sound; here = standing_index c.args.self.now c.requires.sound 0xB6 (sym c.in-182.is ∙ c.opcode.ensures) Invokevirtual refl _ c.index-index.ensures }
 
-pub take-unit-requires : goal.take-unit-requires
-take-unit-requires g c =
+pub take_unit-requires : goal.take_unit-requires
+take_unit-requires g c =
     record { sound = c.requires.sound; here = standing c.args.self.now c.requires.sound 0xF0 (sym c.in-240.is ∙ c.opcode.ensures); runs = c.requires.runs }
 
-pub put-units-requires : goal.put-units-requires
-put-units-requires g c =
+pub put_units-requires : goal.put_units-requires
+put_units-requires g c =
     record { sound = c.requires.sound; here = standing c.args.self.now c.requires.sound 0xF1 (sym c.in-241.is ∙ c.opcode.ensures); runs = c.requires.runs }
 
 pub returns-in-182 : goal.returns-in-182
@@ -30,8 +30,8 @@ returns-in-182 g c =
       turn = call_turn m c.requires.sound k here c.requires.runs c.call.result c.call.new.self c.call.ensures.state h;
     }
 
-pub returns-in-default : goal.returns-in-default
-returns-in-default g c =
+pub returns-in_default : goal.returns-in_default
+returns-in_default g c =
     let m = c.args.self.now in
     let i = has_opcode m c.requires.sound c.opcode.result c.opcode.ensures in
     let free : is_free c.opcode.result ≡ true = search rules in

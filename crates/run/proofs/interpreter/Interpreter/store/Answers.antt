@@ -1,9 +1,9 @@
-use Rattle.std.proofs.Common.{◌≡◌, ℕ, ◌+◌, ◌<◌, Bool, true, false, cond, ltb, List, ◌∷◌, length, get_or, set, Some, None, Option, sym, refl, ap, ◌∙◌, subst, arith}
+use Rattle.std.proofs.Common.{◌≡◌, ℕ, ◌<◌, Bool, true, cond, List, ◌∷◌, length, Some, None, sym, refl, ap, ◌∙◌, subst, arith}
 use Rattle.std.proofs.lemmas.Bool.{lt-ltb}
 use Rattle.bytecode.specs.Places.{next}
 use Rattle.bytecode.specs.declared.instruction.Instruction.TheVariants.{Istore}
 use Rattle.frames.specs.Frames.{running, kept_trans}
-use Rattle.machine.specs.Machine.{Frame, Fed, execute, fed, store, with_operands, with_variable, continue_at}
+use Rattle.machine.specs.Machine.{Frame, Fed, execute, fed, store, with_variable, continue_at}
 use Rattle.run.specs.Sound.{program, stands, state_of, sound}
 use Rattle.run.specs.declared.interpreter.Interpreter.{Interpreter}
 use Rattle.run.proofs.Steps.{frames_laid, place_small, code, variable_there, taken, next_is, continued, Executes}
@@ -31,8 +31,8 @@ store-requires c =
       inside = subst (λ (r : Frame). c.args.index < length r.variables) (sym t.running) (inside c.args.self.now c.requires.sound c.args.index c.requires.here);
     }
 
-pub overflow-add-self : goal.overflow-add-self
-overflow-add-self c = let l = place_small c.args.self.now c.requires.sound in omega arith
+pub overflow_add-self : goal.overflow_add-self
+overflow_add-self c = let l = place_small c.args.self.now c.requires.sound in omega arith
 
 pub returns : goal.returns
 returns c =

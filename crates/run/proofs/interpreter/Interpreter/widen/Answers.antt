@@ -1,13 +1,11 @@
-use Rattle.std.proofs.Common.{◌≡◌, ℕ, ◌+◌, ◌<◌, List, ◌∷◌, sym, refl, ap, ◌∙◌, subst, arith}
+use Rattle.std.proofs.Common.{refl, arith}
 use Rattle.bytecode.specs.declared.instruction.Instruction.TheVariants.{Wide}
-use Rattle.frames.specs.Frames.{running, kept_refl, kept_trans}
-use Rattle.machine.specs.Machine.{execute, fed}
-use Rattle.run.specs.Sound.{program, state_of}
+use Rattle.frames.specs.Frames.{running, kept_refl}
 use Rattle.run.proofs.Steps.{frames_laid, place_small, proceeded}
 use Rattle.run.proofs.interpreter.Interpreter.widen.Goals as goal
 
-pub overflow-add-self : goal.overflow-add-self
-overflow-add-self c = let l = place_small c.args.self.now c.requires.sound in omega arith
+pub overflow_add-self : goal.overflow_add-self
+overflow_add-self c = let l = place_small c.args.self.now c.requires.sound in omega arith
 
 pub returns : goal.returns
 returns c =

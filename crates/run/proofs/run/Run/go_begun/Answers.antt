@@ -1,6 +1,5 @@
-use Rattle.std.proofs.Common.{◌≡◌, Bool, true, cond, Some, None, Option, sym, refl, ap, ◌∙◌, subst}
-use Rattle.machine.specs.Machine.{State}
-use Rattle.machine.specs.Go.{Host, Outcome, outcome}
+use Rattle.std.proofs.Common.{Bool, cond, Some, None, sym, ap, ◌∙◌}
+use Rattle.machine.specs.Go.{Outcome, outcome}
 use Rattle.run.specs.declared.interpreter.Interpreter.{Interpreter}
 use Rattle.run.specs.Sound.{program, numbers, cells, state_of}
 use Rattle.run.specs.Step.{host_of}
