@@ -1,6 +1,7 @@
 //! Tests of the decoding and of the rules of the code.
 
 #![tactic(auto)]
+
 #[cfg(test)]
 mod tests {
     use bytecode::decode::decode;

@@ -1,5 +1,6 @@
 //! Runs a program file on a label, and prints how it went and what it wrote.
 #![tactic(auto)]
+
 use runner::memory::Memory;
 use runner::on_label::run_text;
 use std::alloc::Global;

@@ -1,6 +1,7 @@
 //! Tests of the file reader: one file and more for each rule of the layout, the boundaries, and the parts that are answered.
 
 #![tactic(auto)]
+
 #[cfg(test)]
 mod bounds;
 #[cfg(test)]

@@ -1,6 +1,7 @@
 //! Tests of the frames.
 
 #![tactic(auto)]
+
 #[cfg(test)]
 mod tests {
     use frames::Frames;

@@ -1,5 +1,6 @@
 //! Lists the parts and the instructions of a program file, or says why it is refused.
 #![tactic(auto)]
+
 use listing::report::listing;
 use std::alloc::Global;
 use std::fs::File;

@@ -1,6 +1,7 @@
 //! Tests of the listing.
 
 #![tactic(auto)]
+
 #[cfg(test)]
 mod tests {
     use listing::report::listing;

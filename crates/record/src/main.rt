@@ -1,5 +1,6 @@
 //! Runs a program file on a recorder, and prints how it went and what the recorder's memory holds.
 #![tactic(auto)]
+
 use runner::memory::Memory;
 use runner::on_recorder::record_text;
 use std::alloc::Global;

@@ -1,6 +1,7 @@
 //! Tests of the reports.
 
 #![tactic(auto)]
+
 #[cfg(test)]
 mod tests {
     use machine::stop::{End, Stop};

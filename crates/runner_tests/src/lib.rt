@@ -1,6 +1,7 @@
 //! Tests of what is told of a run.
 
 #![tactic(auto)]
+
 #[cfg(test)]
 mod tests {
     use runner::memory::Memory;

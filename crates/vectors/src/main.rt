@@ -4,6 +4,7 @@
 //! and that they end, and most of their contracts say no more. The stored form and the line stand at the top of reference/src/cases.rs.
 //! Its cases are those that the reference's `choosecases 2026 20000 2000` writes, and the reference's `vectors` writes the lines.
 #![tactic(auto)]
+
 mod admission;
 mod digest;
 mod line;

@@ -1,6 +1,7 @@
 //! Tests of check and admit: the worked programs, one file and more for each refusal of the code, and the sheet that is left.
 
 #![tactic(auto)]
+
 #[cfg(test)]
 mod accepts;
 #[cfg(test)]
