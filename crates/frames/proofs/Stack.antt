@@ -100,12 +100,12 @@ cells_hold f (suc d) q b h =
     let under = cells_hold f d (take b q) c low in
     let back = base_is f d (take b q) c low in
     let heads = head_cells q b (omega arith) in
-    let whole-rest : take n rest ++ reverse (reverse (drop (b + 3 + n) q)) ≡ rest
+    let whole_rest : take n rest ++ reverse (reverse (drop (b + 3 + n) q)) ≡ rest
     = ap (λ x. take n rest ++ x) (reverse-reverse (drop (b + 3 + n) q) ∙ sym (drop-drop n (b + 3) q)) ∙ take-append-drop n rest in
     sym (take-append-drop b q) ∙ ap (λ x. take b q ++ x) heads
     ∙ ap (λ x. x ++ (get_or q b 0 ∷ get_or q (b + 1) 0 ∷ c ∷ rest)) under
     ∙ ap (λ x. frames_cells (frames_at f d (take b q) c) ++ (get_or q b 0 ∷ get_or q (b + 1) 0 ∷ x ∷ rest)) (sym back)
-    ∙ ap (λ x. frames_cells (frames_at f d (take b q) c) ++ (get_or q b 0 ∷ get_or q (b + 1) 0 ∷ caller_base (frames_at f d (take b q) c) ∷ x)) (sym whole-rest)
+    ∙ ap (λ x. frames_cells (frames_at f d (take b q) c) ++ (get_or q b 0 ∷ get_or q (b + 1) 0 ∷ caller_base (frames_at f d (take b q) c) ∷ x)) (sym whole_rest)
 
 pub alone_is : (f : List ℕ) (d : ℕ) (q : List ℕ) (b : ℕ) → alone (frames_at f d q b) ≡ eqb d 0
 alone_is f zero q b = refl

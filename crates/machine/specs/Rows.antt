@@ -168,8 +168,8 @@ pub record ReplaysOn (f s : List ℕ) (cells : ℕ) : Type 0 where
   pub same_units : SameUnitsOn f s cells
   pub never_begins : NeverBeginsOn f s cells
 
--- two such rows, begun or not, on any cells: where one's units begin the other's and its sum is no larger, its written units
--- begin the other's
+-- two rows of one file, each with an admitted sheet of its own, begun or not, on any cells: where one's units begin the other's and
+-- its sum is no larger, its written units begin the other's
 abbrev pub FirstUnits : Type 0
 FirstUnits = (f s s' : List ℕ) → Admitted f s → Admitted f s' → (cells cells' : ℕ) (h h' : Host) (es es' : List Event) →
     let r = row f s (new f s cells h) es in

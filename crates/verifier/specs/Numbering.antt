@@ -30,7 +30,7 @@ depth_after f p d = (d - takes f p) + leaves f p
 abbrev pub balanced : List ℕ → ℕ → ℕ → Bool
 balanced f p d = nat_le (takes f p) d && numbered (depth_after f p d)
 
--- the place x with the number d keeps the rule: it is balanced, and its successors are places of the method with its depth_after
+-- the place x with the number d keeps the rule: it is balanced, and its successors are places of the method with its result
 abbrev pub keeps : List ℕ → List ℕ → Point → ℕ → Bool
 keeps f s x d =
     balanced f x.place d &&
@@ -76,7 +76,7 @@ Admitted f s = admit_refusal f s ≡ None
 abbrev pub give : List ℕ → ℕ → ℕ → List ℕ → ℕ → List ℕ
 give f k d s q = cond (is_place f k q && number s q == blank) (slice_set s q d) s
 
--- a numbered place that is balanced gives its depth_after to its successors
+-- a numbered place that is balanced gives its result to its successors
 abbrev pub give_on : List ℕ → List ℕ → Point → List ℕ
 give_on f s x =
     let d = number s x.place in

@@ -5,7 +5,7 @@ use Rattle.bytecode.specs.Flow.{Marked}
 use Rattle.bytecode.specs.Rules.{code_refusal}
 
 -- the rules of the layout and of the code pass, and the table says which methods return a value
-pub record Ready (f : List ℕ) (returns-value : List Bool) : Type 0 where
+pub record Ready (f : List ℕ) (returns_value : List Bool) : Type 0 where
   pub layout : Accepted f
   pub code : code_refusal f ≡ None
-  pub kinds : Marked f returns-value
+  pub kinds : Marked f returns_value

@@ -20,7 +20,7 @@ pub data Reached (f : List ℕ) (k : ℕ) : ℕ → Type 0 where
   at_start : Reached f k (code_address f k)
   onward : {p q : ℕ} → Reached f k p → Memᴰ q (successors f p) → Reached f k q
 
--- some way from method k's start to p has depth d there: 0 at the start, and at each successor the depth_after
+-- some way from method k's start to p has depth d there: 0 at the start, and at each successor the result
 pub data Counts (f : List ℕ) (k : ℕ) : ℕ → ℕ → Type 0 where
   none_at_start : Counts f k (code_address f k) 0
   result_onward : {p q d : ℕ} → Counts f k p d → Memᴰ q (successors f p) → Counts f k q (depth_after f p d)

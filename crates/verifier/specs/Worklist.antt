@@ -23,7 +23,7 @@ pend_if inside d w q =
 abbrev pub pend : List ℕ → ℕ → ℕ → Work → ℕ → Work
 pend f k d w q = pend_if (is_place f k q) d w q
 
--- a turn: x, which waited, gives its depth_after to its successors if it is balanced
+-- a turn: x, which waited, gives its result to its successors if it is balanced
 abbrev pub turn : List ℕ → ℕ → Work → Pending → Work
 turn f k w x = cond (balanced f x.place x.number) (fold (pend f k (depth_after f x.place x.number)) w (successors f x.place)) w
 

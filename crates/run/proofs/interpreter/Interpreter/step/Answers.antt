@@ -36,10 +36,10 @@ returns-in_default g c =
     let i = has_opcode m c.requires.sound c.opcode.result c.opcode.ensures in
     let free : is_free c.opcode.result ≡ true = search rules in
     let not_in : eqb c.opcode.result 0xF0 ≡ false = search rules in
-    let not-out : eqb c.opcode.result 0xF1 ≡ false = search rules in
+    let not_out : eqb c.opcode.result 0xF1 ≡ false = search rules in
     let h = host_of (g.H.Host.waiting c.args.host.now) (g.H.Host.written c.args.host.now) (g.H.Host.space c.args.host.now) in
     record {
       kept = g.H.Host.kept_refl c.args.host.now;
       stop = sym (free_hinders m c.requires.sound i.0 i.1 (ap is_free i.2 ∙ free) h);
-      turn = free_turn m c.requires.sound i.0 i.1 c.requires.runs (ap (λ (k : ℕ). eqb k 0xF0) i.2 ∙ not_in) (ap (λ (k : ℕ). eqb k 0xF1) i.2 ∙ not-out) c.execute.new.self c.execute.ensures h;
+      turn = free_turn m c.requires.sound i.0 i.1 c.requires.runs (ap (λ (k : ℕ). eqb k 0xF0) i.2 ∙ not_in) (ap (λ (k : ℕ). eqb k 0xF1) i.2 ∙ not_out) c.execute.new.self c.execute.ensures h;
     }
