@@ -1,6 +1,6 @@
 //! Small programs: their files, their sheets, and runs of them.
 ghost use Rattle.std.specs.Prelude.{IfOk};
-ghost use Rattle.verifier.specs.Numbering.{Admitted as Is-admitted};
+ghost use Rattle.verifier.specs.Numbering.{Admitted as IsAdmitted};
 
 use host::Host;
 use host::recorder::Recorder;
@@ -131,7 +131,7 @@ impl Program {
 
     /// The file with its sheet, admitted.
     pub(crate) fn admitted(&self) -> Result<Admitted, Fail>
-        ensures { IfOk result (λ a. Is-admitted a.file.now a.sheet.now) }
+        ensures { IfOk result (λ a. IsAdmitted a.file.now a.sheet.now) }
     {
         match admit(self.file.as_slice(), self.sheet.as_slice()) {
             Ok(admitted) => Ok(admitted),

@@ -1,7 +1,7 @@
 //! The check of a file in as much memory as it has bytes.
 ghost use Rattle.std.specs.Prelude.{◌≡◌, length, OnOk};
 ghost use Rattle.std.specs.Result.{result_err};
-ghost use Rattle.verifier.specs.Numbering.{numbering, with_peaks, check_refusal, Admitted as Is-admitted};
+ghost use Rattle.verifier.specs.Numbering.{numbering, with_peaks, check_refusal, Admitted as IsAdmitted};
 
 use refusals::Refusal;
 use verifier::check::check;
@@ -17,7 +17,7 @@ pub(crate) fn fill_sheet(
     requires pending { length pending.old ≡ length file.now }
     ensures refuses { result_err result ≡ check_refusal file.now (length file.now) (length file.now) }
     ensures sheet { OnOk result (sheet.new ≡ with_peaks file.now (numbering file.now)) }
-    ensures admitted { OnOk result (Is-admitted file.now sheet.new) }
+    ensures admitted { OnOk result (IsAdmitted file.now sheet.new) }
 {
     match check(file, sheet, pending) {
         Ok(_) => Ok(()),

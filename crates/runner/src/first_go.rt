@@ -1,6 +1,6 @@
 //! The first go of a new run.
 ghost use Rattle.std.specs.Prelude.{◌≡◌, length};
-ghost use Rattle.verifier.specs.Numbering.{Admitted as Is-admitted};
+ghost use Rattle.verifier.specs.Numbering.{Admitted as IsAdmitted};
 ghost use Rattle.run.specs.Step.{host_of};
 ghost use Rattle.runner.specs.Texts.{go_once, first_go};
 
@@ -20,7 +20,7 @@ fn go_once<H: Host>(
     host: &mut H,
     fuel: u32,
 ) -> (Stop, u32)
-    requires admitted { Is-admitted file.now sheet.now }
+    requires admitted { IsAdmitted file.now sheet.now }
     ensures stop { result.0 ≡ (go_once file.now sheet.now (length cells.old) fuel (host_of (H.waiting host.old) (H.written host.old) (H.space host.old))).stop }
     ensures count { result.1 ≡ (go_once file.now sheet.now (length cells.old) fuel (host_of (H.waiting host.old) (H.written host.old) (H.space host.old))).counted }
     ensures written { H.written host.new ≡ (go_once file.now sheet.now (length cells.old) fuel (host_of (H.waiting host.old) (H.written host.old) (H.space host.old))).host.written }
@@ -40,7 +40,7 @@ pub(crate) fn first_go<H: Host>(
     cells: &mut [u16],
     host: &mut H,
 ) -> (Stop, u32)
-    requires admitted { Is-admitted file.now sheet.now }
+    requires admitted { IsAdmitted file.now sheet.now }
     requires cells { length cells.old ≡ 2048 }
     ensures stop { result.0 ≡ (first_go file.now sheet.now (host_of (H.waiting host.old) (H.written host.old) (H.space host.old))).stop }
     ensures count { result.1 ≡ (first_go file.now sheet.now (host_of (H.waiting host.old) (H.written host.old) (H.space host.old))).counted }

@@ -1,6 +1,6 @@
 //! A file run on a label.
 ghost use Rattle.std.specs.Prelude.{◌≡◌, ◌≤◌, length, IfOk, string_bytes};
-ghost use Rattle.verifier.specs.Numbering.{Admitted as Is-admitted};
+ghost use Rattle.verifier.specs.Numbering.{Admitted as IsAdmitted};
 ghost use Rattle.runner.specs.Texts.{key_units, new_host, first_go, shown_text, checked_text, ejvm_text};
 
 use crate::checking::fill_sheet;
@@ -20,7 +20,7 @@ fn admitted_text(
     line: &mut [u16],
     cells: &mut [u16],
 ) -> Result<String, AllocError>
-    requires admitted { Is-admitted file.now sheet.now }
+    requires admitted { IsAdmitted file.now sheet.now }
     requires line { length line.old ≡ 256 }
     requires cells { length cells.old ≡ 2048 }
     ensures { IfOk result (λ s. string_bytes s ≡ shown_text (first_go file.now sheet.now (new_host (key_units keys.now)))) }

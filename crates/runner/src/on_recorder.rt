@@ -1,7 +1,7 @@
 //! A file run on a recorder.
 ghost use Rattle.std.specs.Prelude.{◌≡◌, ◌≤◌, length, IfOk, string_bytes};
 ghost use Rattle.host.specs.Recorder.{recorded};
-ghost use Rattle.verifier.specs.Numbering.{Admitted as Is-admitted};
+ghost use Rattle.verifier.specs.Numbering.{Admitted as IsAdmitted};
 ghost use Rattle.runner.specs.Texts.{key_units, new_host, first_go, recorded_text, checked_text, recording_text};
 
 use crate::checking::fill_sheet;
@@ -24,7 +24,7 @@ fn record(
     cells: &mut [u16],
     bytes: &mut [u8],
 ) -> (Stop, u32)
-    requires admitted { Is-admitted file.now sheet.now }
+    requires admitted { IsAdmitted file.now sheet.now }
     requires cells { length cells.old ≡ 2048 }
     requires bytes { length bytes.old ≡ 195 }
     ensures stop { result.0 ≡ (first_go file.now sheet.now (new_host (key_units keys.now))).stop }
@@ -43,7 +43,7 @@ fn admitted_text(
     keys: &[u8],
     cells: &mut [u16],
 ) -> Result<String, AllocError>
-    requires admitted { Is-admitted file.now sheet.now }
+    requires admitted { IsAdmitted file.now sheet.now }
     requires cells { length cells.old ≡ 2048 }
     ensures { IfOk result (λ s. string_bytes s ≡ recorded_text (first_go file.now sheet.now (new_host (key_units keys.now)))) }
 {

@@ -1,7 +1,7 @@
 //! The first go of a new run on a label, carried out as a row.
 ghost use Rattle.std.specs.Prelude.{◌≡◌, length};
 ghost use Rattle.host.specs.Label.{label_written};
-ghost use Rattle.verifier.specs.Numbering.{Admitted as Is-admitted};
+ghost use Rattle.verifier.specs.Numbering.{Admitted as IsAdmitted};
 ghost use Rattle.run.specs.Run.{Goes};
 ghost use Rattle.rows.specs.Carried.{label_host};
 ghost use Rattle.runner.specs.Texts.{go_once, first_go};
@@ -32,7 +32,7 @@ fn row_once(
     label: &mut Label<'_>,
     fuel: u32,
 ) -> (Stop, u32)
-    requires admitted { Is-admitted file.now sheet.now }
+    requires admitted { IsAdmitted file.now sheet.now }
     ensures stop { result.0 ≡ (go_once file.now sheet.now (length cells.old) fuel (label_host label.old)).stop }
     ensures count { result.1 ≡ (go_once file.now sheet.now (length cells.old) fuel (label_host label.old)).counted }
     ensures written { label_written label.new ≡ (go_once file.now sheet.now (length cells.old) fuel (label_host label.old)).host.written }
@@ -51,7 +51,7 @@ pub(crate) fn first_row(
     cells: &mut [u16],
     label: &mut Label<'_>,
 ) -> (Stop, u32)
-    requires admitted { Is-admitted file.now sheet.now }
+    requires admitted { IsAdmitted file.now sheet.now }
     requires cells { length cells.old ≡ 2048 }
     ensures stop { result.0 ≡ (first_go file.now sheet.now (label_host label.old)).stop }
     ensures count { result.1 ≡ (first_go file.now sheet.now (label_host label.old)).counted }

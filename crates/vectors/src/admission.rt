@@ -1,6 +1,6 @@
 //! What `admit` answers, and the runs of what it accepts.
 ghost use Rattle.std.specs.Prelude.{◌≡◌};
-ghost use Rattle.verifier.specs.Numbering.{Admitted as Is-admitted};
+ghost use Rattle.verifier.specs.Numbering.{Admitted as IsAdmitted};
 
 use crate::on_label::{in_one_go, in_slices};
 use crate::on_recorder::recorded;
@@ -27,7 +27,7 @@ fn runs_words(
     admitted: Admitted<'_, '_>,
     case: &Case<'_>,
 ) -> Result<String, AllocError>
-    requires { Is-admitted admitted.file.now admitted.sheet.now }
+    requires { IsAdmitted admitted.file.now admitted.sheet.now }
 {
     let label = in_one_go(heap, admitted, case)?;
     let record = recorded(heap, admitted, case)?;

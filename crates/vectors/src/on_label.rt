@@ -1,6 +1,6 @@
 //! Runs on a label.
 ghost use Rattle.std.specs.Prelude.{◌≡◌};
-ghost use Rattle.verifier.specs.Numbering.{Admitted as Is-admitted};
+ghost use Rattle.verifier.specs.Numbering.{Admitted as IsAdmitted};
 
 use crate::memory::{filled, slots};
 use crate::stored::{Case, ENTRY, entry_numbers};
@@ -63,7 +63,7 @@ pub(crate) fn in_one_go(
     admitted: Admitted<'_, '_>,
     case: &Case<'_>,
 ) -> Result<String, AllocError>
-    requires { Is-admitted admitted.file.now admitted.sheet.now }
+    requires { IsAdmitted admitted.file.now admitted.sheet.now }
 {
     let mut line = slots(heap, case.slots)?;
     let mut cells = filled(heap, case.cells)?;
@@ -109,7 +109,7 @@ pub(crate) fn in_slices(
     admitted: Admitted<'_, '_>,
     case: &Case<'_>,
 ) -> Result<String, AllocError>
-    requires { Is-admitted admitted.file.now admitted.sheet.now }
+    requires { IsAdmitted admitted.file.now admitted.sheet.now }
 {
     let mut line = slots(heap, case.slots)?;
     let mut cells = filled(heap, case.cells)?;

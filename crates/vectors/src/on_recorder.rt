@@ -1,6 +1,6 @@
 //! A run on a recorder.
 ghost use Rattle.std.specs.Prelude.{◌≡◌};
-ghost use Rattle.verifier.specs.Numbering.{Admitted as Is-admitted};
+ghost use Rattle.verifier.specs.Numbering.{Admitted as IsAdmitted};
 
 use crate::digest::digest_of_bytes;
 use crate::memory::{filled, filled_bytes};
@@ -24,7 +24,7 @@ struct Gone {
 
 /// Goes on a recorder over this memory.
 fn go(admitted: Admitted<'_, '_>, cells: &mut [u16], memory: &mut [u8], keys: &[u8]) -> Gone
-    requires { Is-admitted admitted.file.now admitted.sheet.now }
+    requires { IsAdmitted admitted.file.now admitted.sheet.now }
 {
     let mut recorder = Recorder::open(memory, keys);
     let room = recorder.room();
@@ -43,7 +43,7 @@ pub(crate) fn recorded(
     admitted: Admitted<'_, '_>,
     case: &Case<'_>,
 ) -> Result<String, AllocError>
-    requires { Is-admitted admitted.file.now admitted.sheet.now }
+    requires { IsAdmitted admitted.file.now admitted.sheet.now }
 {
     let mut cells = filled(heap, case.cells)?;
     let mut memory = filled_bytes(heap, case.memory)?;
