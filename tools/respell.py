@@ -24,19 +24,11 @@ FACTS_OF = {"pushed": "ring.specs.Ring", "popped": "ring.specs.Ring", "added": "
 RESULT = "Rattle.verifier.specs.Numbering"
 
 
-def antt_files(root):
+def files_of(root, ending):
     for folder, dirs, files in os.walk(os.path.join(root, "crates")):
         dirs[:] = sorted(d for d in dirs if d != "out")
         for f in sorted(files):
-            if f.endswith(".antt"):
-                yield os.path.join(folder, f)
-
-
-def source_files(root):
-    for folder, dirs, files in os.walk(os.path.join(root, "crates")):
-        dirs[:] = sorted(d for d in dirs if d != "out")
-        for f in sorted(files):
-            if f.endswith(".rt"):
+            if f.endswith(ending):
                 yield os.path.join(folder, f)
 
 
@@ -48,7 +40,7 @@ def read(path):
 def definitions(root):
     """Each name with whether it is a type, whether it is a field, and whether specs/ defines it."""
     found, goals = {}, set()
-    for path in antt_files(root):
+    for path in files_of(root, ".antt"):
         record_indent = None
         for line in read(path).split("\n"):
             if line.strip().startswith("--"):
@@ -183,7 +175,7 @@ def main():
         for n in sorted(new):
             print(n, new[n])
         return
-    for path in list(antt_files(root)) + list(source_files(root)):
+    for path in list(files_of(root, ".antt")) + list(files_of(root, ".rt")):
         text = read(path)
         elsewhere = facts_elsewhere(path, text)
         here = {n: w for n, w in new.items() if n not in elsewhere}
