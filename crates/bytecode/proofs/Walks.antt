@@ -1,12 +1,13 @@
 -- A walk over the places of a method, one after another: what is left of the places, and what a search of them finds. Assumes nothing.
-use Rattle.std.proofs.Common.{◌≡◌, ℕ, zero, suc, ◌+◌, ◌-◌, ◌<◌, ◌≤◌, Bool, true, false, cond, not, ◌&&◌, eqb, ltb, leb, List, [], ◌∷◌, Some, None, Option, sym, refl, ap, ◌∙◌, arith}
+use Rattle.std.proofs.Common.{◌≡◌, ℕ, zero, suc, ◌+◌, ◌-◌, ◌<◌, ◌≤◌, Bool, true, false, cond, not, ◌&&◌, eqb, ltb, leb, ◌⊎◌, inl, inr, List, [], ◌∷◌, Some, None, Option, sym, refl, ap, ◌∙◌, arith}
+use mathlib.Core.List.Memᴰ
 use Rattle.std.proofs.lemmas.Bool.{ltb-true, ltb-false}
 use Rattle.std.proofs.lemmas.Bool.Decides.{nat_tests}
-use Rattle.format.specs.Layout.{byte, code_address, code_size}
-use Rattle.format.specs.Search.{first, any}
-use Rattle.format.proofs.Finds.{first_nil, first_cons, any_nil, any_cons}
+use Rattle.format.specs.Layout.{byte}
+use Rattle.format.specs.Search.{first}
+use Rattle.format.proofs.Finds.{In, first_nil, first_cons}
 use Rattle.bytecode.specs.Opcodes.{length_of}
-use Rattle.bytecode.specs.Places.{code_end, next, whole, decoded, places}
+use Rattle.bytecode.specs.Places.{next, whole, decoded}
 
 -- the place after p, or the end
 abbrev pub after : List ℕ → ℕ → ℕ → ℕ
@@ -63,27 +64,24 @@ module _ (f : List ℕ) (e : ℕ) where
       go true w = let h = whole_ends p w in decoded_enough (next f p) (e - p) (e - next f p) (omega arith) (omega arith)
       go false w = sym (left_none e (omega arith))
 
--- a walk begins with all places of the method
-pub left_all : (f : List ℕ) (k : ℕ) → left f (code_end f k) (code_address f k) ≡ places f k
-left_all f k = let e : (code_address f k + code_size f k) - code_address f k ≡ code_size f k = sizes (code_address f k) (code_size f k) in rw e
+-- a place that is decoded lies before the end, and not before the first
+pub decoded_inside : (f : List ℕ) (e p n q : ℕ) → In q (decoded f e p n) → (p ≤ q) × (q < e)
+unfolding decoded
+decoded_inside f e p zero q m = absurd (Memᴰ.not-nil m)
+decoded_inside f e p (suc n) q m = go (ltb p e) refl (whole f e p) refl (decoded_inside f e (next f p) n q) m
   where
-    sizes : (a s : ℕ) → (a + s) - a ≡ s
-    sizes a s = omega arith
+    go : (a : Bool) → ltb p e ≡ a → (b : Bool) → whole f e p ≡ b → (In q (decoded f e (next f p) n) → (next f p ≤ q) × (q < e)) →
+        In q (cond a (p ∷ cond b (decoded f e (next f p) n) []) []) → (p ≤ q) × (q < e)
+    go false u b v ih m' = absurd (Memᴰ.not-nil m')
+    go true u b v ih m' = let l = ltb-true p e u in here b v (Memᴰ.cases_cons m')
+      where
+        here : (b : Bool) → whole f e p ≡ b → (q ≡ p) ⊎ In q (cond b (decoded f e (next f p) n) []) → (p ≤ q) × (q < e)
+        here b v (inl z) = omega (arith, ltb-true p e u)
+        here true v (inr i) = let w = whole_ends f e p v in let r = ih i in omega arith
+        here false v (inr i) = absurd (Memᴰ.not-nil i)
 
 -- what a search of the places knows at each step, where it stops, and at the end: r is what it finds among all places
 module _ (f : List ℕ) (e : ℕ) (t : ℕ → Bool) (p : ℕ) where
-  any_more : p < e → any t (left f e p) ≡ cond (t p) true (any t (left f e (after f e p)))
-  any_more l = ap (any t) (left_more f e p l) ∙ any_cons t p (left f e (after f e p))
-
-  pub any_goes_on : (q : ℕ) {r : Bool} → any t (left f e p) ≡ r → p < e → t p ≡ false → q ≡ after f e p → any t (left f e q) ≡ r
-  any_goes_on q h l n s = rw s (let m = any_more l in cc)
-
-  pub any_stops : {r : Bool} → any t (left f e p) ≡ r → p < e → t p ≡ true → true ≡ r
-  any_stops h l n = let m = any_more l in cc
-
-  pub any_ends : {r : Bool} → any t (left f e p) ≡ r → e ≤ p → false ≡ r
-  any_ends h l = let m = ap (any t) (left_none f e p l) in let z = any_nil t in cc
-
   first_more : p < e → first t (left f e p) ≡ cond (t p) (Some p) (first t (left f e (after f e p)))
   first_more l = ap (first t) (left_more f e p l) ∙ first_cons t p (left f e (after f e p))
 

@@ -1,14 +1,17 @@
 //! The places of a method: the addresses of its instructions, one after another from its start.
 ghost use Rattle.std.specs.Prelude.{◌≡◌, ◌+◌, ◌<◌, ◌≤◌, length, if◌then◌else◌};
+ghost use Rattle.format.specs.Search.{when};
 ghost use Rattle.format.specs.Layout.{methods, code_address, code_size};
 ghost use Rattle.format.specs.Parts.{Accepted};
-ghost use Rattle.bytecode.specs.Places.{code_end, whole, next, is_place, holds};
+ghost use Rattle.bytecode.specs.Places.{code_end, whole, next, places, is_place, holds};
+ghost use Rattle.bytecode.specs.Walk.{left};
 
 use crate::opcodes::length;
+use crate::walk::Places;
 use format::layout::{debug_head, method_entry};
 
 /// Where the code of a method begins and ends.
-#[derive(Clone, Copy)]
+#[derive(Clone, Copy, PartialEq, Eq, Debug)]
 pub struct CodeRange {
     pub start: usize,
     pub end: usize,
@@ -37,6 +40,15 @@ pub fn code_range(file: &[u8], k: usize) -> CodeRange
     }
 }
 
+/// Where the instruction at `place` ends; nothing if it is unknown or ends past `end`.
+pub(crate) fn instruction_end(file: &[u8], place: usize, end: usize) -> Option<usize>
+    requires { (place < end) × ((end ≤ length file.now) × (end < 65536)) }
+    ensures { result ≡ when (whole file.now end place) (next file.now place) }
+{
+    let size = length(file[place]) as usize;
+    (size != 0 && place + size <= end).then_some(place + size)
+}
+
 /// The place after the instruction at `place`; `end`, if the instruction is unknown or ends past it. Only for the crates above: `place` is
 /// in the code that ends at `end`.
 pub fn next_place(file: &[u8], place: usize, end: usize) -> usize
@@ -44,11 +56,20 @@ pub fn next_place(file: &[u8], place: usize, end: usize) -> usize
     ensures is { result ≡ (if whole file.now end place then next file.now place else end) }
     ensures later { place < result }
 {
-    let size = length(file[place]) as usize;
-    if size == 0 || place + size > end {
-        return end;
+    instruction_end(file, place, end).unwrap_or(end)
+}
+
+/// The places of method `k`, one after another. Only for the crates above: the layout of the file is accepted, and it has this method.
+pub fn code_places(file: &[u8], k: usize) -> Places<'_>
+    requires { (Accepted file.now) × (k < methods file.now) }
+    ensures { left result ≡ places file.now k }
+{
+    let code = code_range(file, k);
+    Places {
+        file,
+        place: code.start,
+        end: code.end,
     }
-    place + size
 }
 
 /// Whether `place` is a place of method `k`. Only for the crates above: the layout of the file is accepted, and it has this method.
@@ -56,15 +77,7 @@ pub fn is_place(file: &[u8], k: usize, place: usize) -> bool
     requires { (Accepted file.now) × (k < methods file.now) }
     ensures { result ≡ is_place file.now k place }
 {
-    let code = code_range(file, k);
-    let mut at = code.start;
-    while at < code.end {
-        if at == place {
-            return true;
-        }
-        at = next_place(file, at, code.end);
-    }
-    false
+    code_places(file, k).any(|at| at == place)
 }
 
 /// Whether method `k` holds an instruction with this opcode.
@@ -72,13 +85,5 @@ pub(crate) fn holds(file: &[u8], k: usize, opcode: u8) -> bool
     requires { (Accepted file.now) × (k < methods file.now) }
     ensures { result ≡ holds file.now k opcode }
 {
-    let code = code_range(file, k);
-    let mut place = code.start;
-    while place < code.end {
-        if file[place] == opcode {
-            return true;
-        }
-        place = next_place(file, place, code.end);
-    }
-    false
+    code_places(file, k).any(|place| file[place] == opcode)
 }
