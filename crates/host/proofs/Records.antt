@@ -1,9 +1,16 @@
 -- Units as byte pairs, and memory with one more unit recorded on it. Assumes nothing.
 use Rattle.std.proofs.Common.{◌≡◌, ℕ, ◌+◌, ◌-◌, ◌*◌, ◌/◌, ◌%◌, ◌<◌, ◌≤◌, List, [], ◌∷◌, ◌++◌, length, get_or, take, drop, set, sym, refl, ap, ◌∙◌, inl, inr, arith, length-append, length-drop}
-use Rattle.std.proofs.lemmas.List.{length-set, length-take-le, length_push, append_assoc, set_at, take_more_set, drop_more, drop-set-add, drop-set-lt}
+use Rattle.std.proofs.lemmas.List.{length-set, length-take-le, length_push, append_assoc, set_at, take_rest, take_more_set, drop_more, drop-set-add, drop-set-lt}
 use Rattle.std.proofs.lemmas.Bool.{le-ltb, lt-ltb, cases_lt}
 use Rattle.host.specs.declared.recorder.Recorder.{Recorder}
 use Rattle.host.specs.Recorder.{bytes_of, units_of, room_in, recorded, recorder_written, recorder_space, Records}
+
+-- the first unit of at least two bytes, and the bytes after it as a slice pattern parts them
+pub units_first : (s : List ℕ) (u : ℕ) → 2 ≤ length s → u ≡ get_or s 0 0 * 256 + get_or s 1 0 →
+    units_of s ≡ u ∷ units_of (take (length s - 2) (drop 2 s))
+units_first [] u h e = absurd (omega arith)
+units_first (a ∷ []) u h e = absurd (omega arith)
+units_first (a ∷ b ∷ s) u h e = rw (take_rest (a ∷ b ∷ s) 2, e)
 
 -- two more bytes after whole units are one more unit
 units_push : (s : List ℕ) (a b : ℕ) → length s % 2 ≡ 0 → units_of (s ++ a ∷ b ∷ []) ≡ units_of s ++ (a * 256 + b) ∷ []
