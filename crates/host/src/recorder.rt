@@ -18,6 +18,7 @@ const MOST_UNITS: usize = 32_767;
 ///
 /// The memory begins with the version, then the count of the bytes that follow in two bytes, then two bytes a unit.
 /// All numbers are big-endian. Memory that is too short for the three bytes of the header stays as it is.
+/// The memory is lent and its layout is fixed, so the count stands beside it.
 #[derive(Drop)]
 pub struct Recorder<'m, 'k> {
     memory: &'m mut [u8],
