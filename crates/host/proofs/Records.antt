@@ -1,11 +1,12 @@
 -- Units as byte pairs, and memory with one more unit recorded on it. Assumes nothing.
-use Rattle.std.proofs.Common.{◌≡◌, ℕ, ◌+◌, ◌-◌, ◌*◌, ◌/◌, ◌%◌, ◌<◌, ◌≤◌, List, [], ◌∷◌, ◌++◌, length, get_or, take, drop, set, sym, refl, ap, ◌∙◌, inl, inr, arith, length-append, length-drop}
+use Rattle.std.proofs.Common.{◌≡◌, ℕ, ◌+◌, ◌-◌, ◌*◌, ◌/◌, ◌%◌, ◌<◌, ◌≤◌, List, [], ◌∷◌, ◌++◌, length, get_or, take, drop, set, sym, refl, ap, ◌∙◌, arith, length-drop}
 use Rattle.std.proofs.lemmas.List.{length-set, length-take-le, length_push, append_assoc, set_at, take_rest, take_more_set, drop_more, drop-set-add, drop-set-lt}
-use Rattle.std.proofs.lemmas.Bool.{le-ltb, lt-ltb, cases_lt}
+use Rattle.std.proofs.lemmas.Grind.{common_steps}
+use Rattle.std.proofs.lemmas.Bool.{le-ltb}
 use Rattle.host.specs.declared.recorder.Recorder.{Recorder}
 use Rattle.host.specs.Recorder.{bytes_of, units_of, room_in, recorded, recorder_written, recorder_space, Records}
 
--- the first unit of at least two bytes, and the bytes after it as the code parts them
+-- the first unit of at least two bytes, and the bytes after it as a slice pattern parts them
 pub units_first : (s : List ℕ) (u : ℕ) → 2 ≤ length s → u ≡ get_or s 0 0 * 256 + get_or s 1 0 →
     units_of s ≡ u ∷ units_of (take (length s - 2) (drop 2 s))
 units_first [] u h e = absurd (omega arith)
@@ -16,11 +17,11 @@ units_first (a ∷ b ∷ s) u h e = rw (take_rest (a ∷ b ∷ s) 2, e)
 units_push : (s : List ℕ) (a b : ℕ) → length s % 2 ≡ 0 → units_of (s ++ a ∷ b ∷ []) ≡ units_of s ++ (a * 256 + b) ∷ []
 units_push [] a b h = refl
 units_push (x ∷ []) a b h = absurd (omega arith)
-units_push (x ∷ y ∷ s) a b h = ap (λ (l : List ℕ). (x * 256 + y) ∷ l) (units_push s a b (omega arith))
+units_push (x ∷ y ∷ s) a b h = grind (arith, units_push s a b)
 
 bytes_push : (us : List ℕ) (u : ℕ) → bytes_of (us ++ u ∷ []) ≡ bytes_of us ++ u / 256 ∷ u % 256 ∷ []
 bytes_push [] u = refl
-bytes_push (x ∷ us) u = ap (λ (l : List ℕ). x / 256 ∷ x % 256 ∷ l) (bytes_push us u)
+bytes_push (x ∷ us) u = grind (arith, bytes_push us u)
 
 length-bytes : (us : List ℕ) → length (bytes_of us) ≡ 2 * length us
 length-bytes [] = refl
@@ -44,11 +45,7 @@ recorded_long : (m us : List ℕ) → 3 ≤ length m →
 recorded_long m us h = rw (le-ltb (length m) 3 h)
 
 length-recorded : (m us : List ℕ) → length us ≤ room_in (length m) → length (recorded m us) ≡ length m
-length-recorded m us h =
-    elim (cases_lt (length m) 3) [
-      | inl short ↦ rw (lt-ltb (length m) 3 short)
-      | inr long ↦ rw (recorded_long m us long) (simp (length-append, length-drop) (omega (arith, length-bytes us)))
-    ]
+length-recorded m us h = grind (arith, common_steps, length-bytes)
 
 -- a unit more in memory that has n units
 abbrev pub with_unit : List ℕ → ℕ → ℕ → List ℕ

@@ -1,5 +1,5 @@
 -- What a label holds. Assumes nothing.
-use Rattle.std.specs.Prelude.{◌≡◌, ℕ, ◌-◌, ◌≤◌, min, List, take, refl}
+use Rattle.std.specs.Prelude.{◌≡◌, ℕ, ◌-◌, ◌≤◌, List, length, refl}
 use Rattle.std.proofs.Common.{arith, ◌∙◌}
 use Rattle.ring.specs.Ring.{items, capacity}
 use Rattle.host.specs.declared.label.Label.{Label}
@@ -8,10 +8,10 @@ abbrev pub label_waiting : Label → List ℕ
 label_waiting l = items l.line
 
 abbrev pub label_written : Label → List ℕ
-label_written l = take (min l.count 96) l.units
+label_written l = l.shown.items
 
 abbrev pub label_space : Label → ℕ
-label_space l = 96 - l.count
+label_space l = 96 - length l.shown.items
 
 -- how many units can wait
 abbrev pub label_capacity : Label → ℕ

@@ -1,3 +1,4 @@
 pub mod Host
 pub mod Label
+pub mod Record
 pub mod Recorder

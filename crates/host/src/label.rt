@@ -1,9 +1,10 @@
 //! A label of the display: a line of keyed units, and up to 96 units shown.
-ghost use Rattle.std.specs.Prelude.{◌≡◌, ◌+◌, ◌<◌, [], ◌∷◌, ◌++◌, length};
+ghost use Rattle.std.specs.Prelude.{◌≡◌, [], length};
 ghost use Rattle.host.specs.Host.{Keyed};
 ghost use Rattle.host.specs.Label.{label_waiting, label_written, label_space, label_capacity, label_bounded, LabelKept, label_kept_refl, label_kept_trans};
 
 use crate::{Host, NO_ROOM};
+use arrayvec::ArrayVec;
 use refusals::{Refusal, Rule};
 use ring::Ring;
 
@@ -16,12 +17,11 @@ pub const LINE_FULL: Refusal = Refusal {
     place: 0,
 };
 
-/// A line of keyed units that wait, and the first `count` units of 96 that are shown.
+/// A line of keyed units that wait, and the units that are shown.
 #[derive(Drop)]
 pub struct Label<'a> {
     line: Ring<'a, u16>,
-    units: [u16; UNITS],
-    count: usize,
+    shown: ArrayVec<u16, UNITS>,
 }
 
 impl<'a> Label<'a> {
@@ -34,8 +34,7 @@ impl<'a> Label<'a> {
     {
         Label {
             line: Ring::new(slots),
-            units: [0; UNITS],
-            count: 0,
+            shown: ArrayVec::new(),
         }
     }
 
@@ -46,28 +45,14 @@ impl<'a> Label<'a> {
         ensures written { label_written self.new ≡ label_written self.old }
         ensures space { label_space self.new ≡ label_space self.old }
     {
-        match self.line.push(unit) {
-            Ok(()) => Ok(()),
-            Err(_) => Err(LINE_FULL),
-        }
+        self.line.push(unit).map_err(|_| LINE_FULL)
     }
 
     /// The units written, the first one first.
     pub fn shown(&self) -> &[u16]
         ensures { result.now ≡ label_written self.now }
     {
-        &self.units[0..self.count.min(UNITS)]
-    }
-
-    /// Writes a unit after the others.
-    fn append(&mut self, unit: u16)
-        requires { 0 < label_space self.old }
-        ensures line { self.new.line ≡ self.old.line }
-        ensures written { label_written self.new ≡ label_written self.old ++ unit ∷ [] }
-        ensures space { label_space self.old ≡ label_space self.new + 1 }
-    {
-        self.units[self.count] = unit;
-        self.count += 1;
+        self.shown.as_slice()
     }
 }
 
@@ -91,14 +76,10 @@ impl<'a> Host for Label<'a> {
     }
 
     fn put(&mut self, unit: u16) -> Result<(), Refusal> {
-        if self.room() == 0 {
-            return Err(NO_ROOM);
-        }
-        self.append(unit);
-        Ok(())
+        self.shown.try_push(unit).map_err(|_| NO_ROOM)
     }
 
     fn room(&self) -> u16 {
-        UNITS.saturating_sub(self.count) as u16
+        self.shown.remaining_capacity() as u16
     }
 }

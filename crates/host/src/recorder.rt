@@ -1,6 +1,6 @@
 //! A recorder: a host that writes its units into lent memory.
-ghost use Rattle.std.specs.Prelude.{◌≡◌, ◌+◌, ◌/◌, ◌%◌, ◌<◌, [], ◌∷◌, ◌++◌, length, Some, None, slice_set};
-ghost use Rattle.host.specs.Recorder.{units_of, room_in, recorded, Records, recorder_waiting, recorder_written, recorder_space, recorder_bounded, RecorderKept, recorder_kept_refl, recorder_kept_trans};
+ghost use Rattle.std.specs.Prelude.{◌≡◌, ◌+◌, ◌/◌, ◌%◌, ◌<◌, ◌≤◌, [], ◌∷◌, ◌++◌, length, slice_set};
+ghost use Rattle.host.specs.Record.{units_of, room_in, recorded};
 
 use crate::{Host, NO_ROOM};
 use refusals::Refusal;
@@ -18,11 +18,13 @@ const MOST_UNITS: usize = 32_767;
 ///
 /// The memory begins with the version, then the count of the bytes that follow in two bytes, then two bytes a unit.
 /// All numbers are big-endian. Memory that is too short for the three bytes of the header stays as it is.
+/// The memory is lent and its layout is fixed, so the count stands beside it.
 #[derive(Drop)]
 pub struct Recorder<'m, 'k> {
     memory: &'m mut [u8],
     keys: &'k [u8],
     count: usize,
+    ghost fits: { count ≤ room_in (length memory.now) },
 }
 
 /// Writes a number into the two bytes at `at`, big-endian.
@@ -30,32 +32,21 @@ fn write_be16(memory: &mut [u8], at: usize, value: u16)
     requires { at + 1 < length memory.old }
     ensures { memory.new ≡ slice_set (slice_set memory.old at (value / 256)) (at + 1) (value % 256) }
 {
-    let [high, low] = value.to_be_bytes();
-    memory[at] = high;
-    memory[at + 1] = low;
+    memory[at..at + 2].copy_from_slice(&value.to_be_bytes());
 }
 
 /// Writes the header of a record with no units, where there is room for it.
 fn write_header(memory: &mut [u8])
     ensures { memory.new ≡ recorded memory.old [] }
 {
-    if memory.len() >= HEADER {
-        memory[0] = VERSION;
-        write_be16(memory, 1, 0);
+    if let Some(header) = memory.first_chunk_mut::<HEADER>() {
+        *header = [VERSION, 0, 0];
     }
 }
 
-/// The first unit of these bytes, with the bytes after it.
-fn split_first_unit(bytes: &[u8]) -> Option<(u16, &[u8])>
-    ensures { elim result [ Some p ↦ (units_of bytes.now ≡ p.0 ∷ units_of p.1.now) | None ↦ (units_of bytes.now ≡ []) ] }
-{
-    let [high, low, rest @ ..] = bytes else {
-        return None;
-    };
-    Some((u16::from_be_bytes([*high, *low]), rest))
-}
-
 impl<'m, 'k> Recorder<'m, 'k> {
+    ghost use Rattle.host.specs.Recorder.{Records, recorder_waiting, recorder_written, recorder_space, RecorderKept};
+
     /// Starts a record with no units in this memory.
     pub fn open(memory: &'m mut [u8], keys: &'k [u8]) -> Recorder<'m, 'k>
         ensures lent { result.memory.ghost_name ≡ memory.entry.ghost_name }
@@ -89,6 +80,8 @@ impl<'m, 'k> Recorder<'m, 'k> {
 }
 
 impl<'m, 'k> Host for Recorder<'m, 'k> {
+    ghost use Rattle.host.specs.Recorder.{recorder_waiting, recorder_written, recorder_space, recorder_bounded, RecorderKept, recorder_kept_refl, recorder_kept_trans};
+
     ghost waiting = { recorder_waiting };
 
     ghost written = { recorder_written };
@@ -104,9 +97,9 @@ impl<'m, 'k> Host for Recorder<'m, 'k> {
     ghost kept_trans = { recorder_kept_trans };
 
     fn take(&mut self) -> Option<u16> {
-        let (unit, rest) = split_first_unit(self.keys)?;
+        let (unit, rest) = self.keys.split_first_chunk()?;
         self.keys = rest;
-        Some(unit)
+        Some(u16::from_be_bytes(*unit))
     }
 
     fn put(&mut self, unit: u16) -> Result<(), Refusal> {
@@ -119,6 +112,6 @@ impl<'m, 'k> Host for Recorder<'m, 'k> {
 
     fn room(&self) -> u16 {
         let units = (self.memory.len().saturating_sub(HEADER) / 2).min(MOST_UNITS);
-        units.saturating_sub(self.count) as u16
+        (units - self.count) as u16
     }
 }

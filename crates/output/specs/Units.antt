@@ -1,7 +1,7 @@
 -- The units of a text. Assumes nothing.
-use Rattle.std.specs.Prelude.{ℕ, List, drop}
+use Rattle.std.specs.Prelude.{ℕ, List, take}
 use Rattle.output.specs.declared.Text.{Text}
 
--- the units from the first one on
+-- as many units as the text counts
 abbrev pub units_of : Text → List ℕ
-units_of t = drop t.first t.units
+units_of t = take t.count t.units

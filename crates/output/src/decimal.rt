@@ -1,51 +1,30 @@
-//! Numbers as decimal digits.
-ghost use Rattle.std.specs.Prelude.{◌≡◌, ◌≤◌, ◌∷◌};
-ghost use Rattle.output.specs.Text.{digits, number_text, with_sign};
+//! Numbers in decimal.
+ghost use Rattle.std.specs.Prelude.{◌≡◌, ◌≤◌, length};
+ghost use Rattle.std.specs.Fmt.{signed_decimal};
 ghost use Rattle.output.specs.Units.{units_of};
 
 use crate::{Text, UNITS};
+use itoa::Buffer;
 
-/// The unit of the digit 0; those of the others follow it.
-const ZERO: u16 = 48;
-
-/// The unit of the minus.
-const MINUS: u16 = 45;
-
-/// How a number is written that is below 0, or is not, and so far from it; 0 has no minus.
-pub(crate) fn decimal(negative: bool, magnitude: u16) -> Text
-    ensures { units_of result ≡ number_text (with_sign negative magnitude) }
+/// A number as decimal digits without leading zeros, with a minus in front where it is below 0.
+pub(crate) fn decimal(number: i16) -> Text
+    ensures { units_of result ≡ signed_decimal number }
 {
-    let text = figures(magnitude);
-    if negative && magnitude != 0 {
-        return with_minus(text);
-    }
-    text
+    let mut buffer = Buffer::new();
+    widened(buffer.format(number).as_bytes())
 }
 
-/// The digits of a number, without leading zeros; a place before them is free.
-fn figures(number: u16) -> Text
-    ensures units { units_of result ≡ digits 5 number }
-    ensures spare { 1 ≤ result.first }
+/// These bytes, each as one unit.
+fn widened(bytes: &[u8]) -> Text
+    requires { length bytes.now ≤ 6 }
+    ensures { units_of result ≡ bytes.now }
 {
     let mut units = [0; UNITS];
-    let mut first = UNITS - 1;
-    let mut rest = number;
-    while rest >= 10 {
-        units[first] = ZERO + rest % 10;
-        rest /= 10;
-        first -= 1;
+    for (index, byte) in bytes.iter().enumerate() {
+        units[index] = u16::from(*byte);
     }
-    units[first] = ZERO + rest;
-    Text { units, first }
-}
-
-/// A minus and these units.
-fn with_minus(text: Text) -> Text
-    requires { 1 ≤ text.first }
-    ensures { units_of result ≡ 45 ∷ units_of text }
-{
-    let mut units = text.units;
-    let first = text.first - 1;
-    units[first] = MINUS;
-    Text { units, first }
+    Text {
+        units,
+        count: bytes.len(),
+    }
 }

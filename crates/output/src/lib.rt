@@ -4,16 +4,17 @@
 ghost use Rattle.std.specs.Prelude.{◌≤◌};
 
 mod decimal;
+pub mod mode;
 pub mod modes;
 pub mod put;
 
 /// How many units OUT writes at most: a minus and five digits.
 const UNITS: usize = 6;
 
-/// The units that OUT writes of a value: those from `first` on, since digits are found from the right.
+/// The units that OUT writes of a value: the first `count` of these. A text is `Copy`, which a vector of fixed capacity is not.
 #[derive(Clone, Copy, Drop)]
 pub struct Text {
     units: [u16; UNITS],
-    first: usize,
-    ghost within: { first ≤ 6 },
+    count: usize,
+    ghost within: { count ≤ 6 },
 }

@@ -11,7 +11,7 @@ impl Text {
         ensures units { result.now ≡ units_of self.now }
         ensures short { length result.now ≤ 6 }
     {
-        self.units.split_at(self.first).1
+        &self.units[..self.count]
     }
 
     /// How many units there are.
@@ -19,7 +19,7 @@ impl Text {
         ensures count { result ≡ length (units_of self.now) }
         ensures short { result ≤ 6 }
     {
-        self.units().len() as u16
+        self.count as u16
     }
 
     /// Writes the units. Only for the crates above: there is room for them.
