@@ -1,10 +1,11 @@
 //! The peak of a method: the largest number of its places.
-ghost use Rattle.std.specs.Prelude.{◌≡◌, ◌<◌, ◌≤◌, max, length, if◌then◌else◌};
+ghost use Rattle.std.specs.Prelude.{◌≡◌, ◌<◌, max, if◌then◌else◌};
 ghost use Rattle.format.specs.Layout.{methods};
-ghost use Rattle.format.specs.Parts.{Accepted};
+ghost use Rattle.verifier.specs.Bytes.{bytes};
 ghost use Rattle.verifier.specs.Numbering.{numbered, peak};
 
-use crate::judge::entry_at;
+use crate::code::Code;
+use crate::sheet::entry_at;
 use bytecode::places::{code_range, next_place};
 
 /// The larger of the two, if the depth is a number.
@@ -15,18 +16,16 @@ fn raised(peak: u16, depth: u16) -> u16
 }
 
 /// The peak of method `k` in the sheet.
-pub(crate) fn peak_of(file: &[u8], sheet: &[u16], k: usize) -> u16
-    requires layout { Accepted file.now }
-    requires method { k < methods file.now }
-    requires long { length file.now ≤ length sheet.now }
-    ensures { result ≡ peak file.now sheet.now k }
+pub(crate) fn peak_of(code: &Code, sheet: &[u16], k: usize) -> u16
+    requires { k < methods (bytes code.now) }
+    ensures { result ≡ peak (bytes code.now) sheet.now k }
 {
-    let code = code_range(file, k);
+    let range = code_range(code.file, k);
     let mut peak = 0;
-    let mut place = code.start;
-    while place < code.end {
+    let mut place = range.start;
+    while place < range.end {
         peak = raised(peak, entry_at(sheet, place));
-        place = next_place(file, place, code.end);
+        place = next_place(code.file, place, range.end);
     }
     peak
 }

@@ -2,13 +2,15 @@
 ghost use Rattle.std.specs.Prelude.{◌≡◌, ◌+◌, ◌<◌, ◌≤◌, [], length, nat_lt};
 ghost use Rattle.ring.specs.Ring.{items, capacity};
 ghost use Rattle.format.specs.Layout.{methods};
-ghost use Rattle.verifier.specs.Ready.{Ready};
+ghost use Rattle.verifier.specs.Bytes.{bytes};
 ghost use Rattle.verifier.specs.Verdicts.{Place};
 ghost use Rattle.verifier.specs.Numbering.{blank, blanks, number};
 ghost use Rattle.verifier.specs.Worklist.{Work, pend_if, turn, turns_left, ClosedTo, Complete};
 
-use crate::judge::{BLANK, entry_at, result_at};
+use crate::code::Code;
+use crate::judge::result_at;
 use crate::pending::Pending;
+use crate::sheet::{BLANK, entry_at};
 use bytecode::flow::successors;
 use bytecode::places::code_range;
 use bytecode::successors::Successors;
@@ -16,18 +18,19 @@ use format::layout::method_count;
 use ring::Ring;
 
 /// Numbers a place before `end` that is still blank, and lets it wait.
-fn give(sheet: &mut [u16], line: &mut Ring<Pending>, end: usize, place: usize, depth: u16)
+fn give(sheet: &mut [u16], line: &mut Ring<Pending>, end: usize, place: usize, depth: u8)
     requires short { end < 65536 }
     requires long { end ≤ length sheet.old }
     requires room { place < end → number sheet.old place ≡ blank → length (items line.old) < capacity line.old }
-    ensures work { ◌≡◌ {A = Work} (record { sheet = sheet.exit.now; pending = items line.new }) (pend_if (nat_lt place end) depth (record { sheet = sheet.entry.now; pending = items line.old }) place) }
+    ensures work { ◌≡◌ {A = Work} (record { sheet = sheet.new; pending = items line.new }) (pend_if (nat_lt place end) depth (record { sheet = sheet.old; pending = items line.old }) place) }
     ensures same { capacity line.new ≡ capacity line.old }
 {
     if place < end && entry_at(sheet, place) == BLANK {
-        sheet[place] = depth;
+        let number = u16::from(depth);
+        sheet[place] = number;
         let Ok(()) = line.push(Pending {
             place: place as u16,
-            number: depth,
+            number,
         }) else {
             unreachable()
         };
@@ -35,28 +38,20 @@ fn give(sheet: &mut [u16], line: &mut Ring<Pending>, end: usize, place: usize, d
 }
 
 /// One turn: the place that waited gives the depth after it to its successors.
-fn go_on(
-    file: &[u8],
-    returns_value: &[bool; 256],
-    k: usize,
-    sheet: &mut [u16],
-    line: &mut Ring<Pending>,
-    waited: Pending,
-)
-    requires ready { Ready file.now returns_value.now }
-    requires at { Place file.now k waited.place }
+fn go_on(code: &Code, k: usize, sheet: &mut [u16], line: &mut Ring<Pending>, waited: Pending)
+    requires at { Place (bytes code.now) k waited.place }
     requires small { waited.number ≤ 255 }
-    requires long { length sheet.old ≡ length file.now }
-    requires room { turns_left file.now k (record { sheet = sheet.now; pending = items line.old }) ≤ capacity line.old }
-    ensures work { ◌≡◌ {A = Work} (record { sheet = sheet.exit.now; pending = items line.new }) (turn file.now k (record { sheet = sheet.entry.now; pending = items line.old }) waited) }
+    requires long { length sheet.old ≡ length (bytes code.now) }
+    requires room { turns_left (bytes code.now) k (record { sheet = sheet.old; pending = items line.old }) ≤ capacity line.old }
+    ensures work { ◌≡◌ {A = Work} (record { sheet = sheet.new; pending = items line.new }) (turn (bytes code.now) k (record { sheet = sheet.old; pending = items line.old }) waited) }
     ensures same { capacity line.new ≡ capacity line.old }
 {
     let place = waited.place as usize;
-    let Some(depth) = result_at(file, returns_value, k, place, waited.number) else {
+    let Some(depth) = result_at(code, k, place, waited.number as u8) else {
         return;
     };
-    let end = code_range(file, k).end;
-    match successors(file, place) {
+    let end = code_range(code.file, k).end;
+    match successors(code.file, place) {
         Successors::Nowhere => {}
         Successors::One(next) => give(sheet, line, end, next, depth),
         Successors::Two(target, next) => {
@@ -67,23 +62,16 @@ fn go_on(
 }
 
 /// Numbers what the start of method `k` reaches.
-fn number_method(
-    file: &[u8],
-    returns_value: &[bool; 256],
-    k: usize,
-    sheet: &mut [u16],
-    line: &mut Ring<Pending>,
-)
-    requires ready { Ready file.now returns_value.now }
-    requires method { k < methods file.now }
-    requires closed { ClosedTo file.now k sheet.old }
+fn number_method(code: &Code, k: usize, sheet: &mut [u16], line: &mut Ring<Pending>)
+    requires method { k < methods (bytes code.now) }
+    requires closed { ClosedTo (bytes code.now) k sheet.old }
     requires empty { items line.old ≡ [] }
-    requires room { length file.now ≤ capacity line.old }
-    ensures closed { ClosedTo file.now (k + 1) sheet.new }
+    requires room { length (bytes code.now) ≤ capacity line.old }
+    ensures closed { ClosedTo (bytes code.now) (k + 1) sheet.new }
     ensures empty { items line.new ≡ [] }
     ensures same { capacity line.new ≡ capacity line.old }
 {
-    let start = code_range(file, k).start;
+    let start = code_range(code.file, k).start;
     sheet[start] = 0;
     let Ok(()) = line.push(Pending {
         place: start as u16,
@@ -92,24 +80,18 @@ fn number_method(
         unreachable()
     };
     while let Some(waited) = line.pop() {
-        go_on(file, returns_value, k, sheet, line, waited);
+        go_on(code, k, sheet, line, waited);
     }
 }
 
 /// Numbers what the methods' starts reach, in a sheet that is blank. The memory has as many entries as the file has bytes, or more.
-pub(crate) fn number_methods(
-    file: &[u8],
-    returns_value: &[bool; 256],
-    sheet: &mut [u16],
-    memory: &mut [Pending],
-)
-    requires ready { Ready file.now returns_value.now }
-    requires blank { sheet.old ≡ blanks file.now }
-    requires room { length file.now ≤ length memory.old }
-    ensures { Complete file.now sheet.new }
+pub(crate) fn number_methods(code: &Code, sheet: &mut [u16], memory: &mut [Pending])
+    requires blank { sheet.old ≡ blanks (bytes code.now) }
+    requires room { length (bytes code.now) ≤ length memory.old }
+    ensures { Complete (bytes code.now) sheet.new }
 {
     let mut line = Ring::new(memory);
-    for k in 0..method_count(file) as usize {
-        number_method(file, returns_value, k, sheet, &mut line);
+    for k in 0..method_count(code.file) as usize {
+        number_method(code, k, sheet, &mut line);
     }
 }

@@ -6,4 +6,4 @@ use Rattle.verifier.specs.Numbering.{breaks}
 use Rattle.verifier.proofs.admit.every_place_keeps.Given as goal
 
 abbrev pub invariant-loop-k : goal.invariant-loop-k
-invariant-loop-k l = first (breaks l.file l.sheet) (points_left l.file l.k) ≡ first (breaks l.file l.sheet) (points l.file)
+invariant-loop-k l = first (breaks l.code.file.now l.sheet) (points_left l.code.file.now l.k) ≡ first (breaks l.code.file.now l.sheet) (points l.code.file.now)

@@ -6,8 +6,8 @@ use Rattle.verifier.proofs.fill.count_method.Given as goal
 
 abbrev pub invariant-loop-place : goal.invariant-loop-place
 invariant-loop-place l =
-    (fold (λ n p. n + cond (numbered (number l.sheet p)) 1 0) l.count (left l.file l.code.end l.place) ≡ count_by (λ p. numbered (number l.sheet p)) (places l.file l.k)) ×
-    (l.count ≤ l.place) × (l.place ≤ l.code.end)
+    (fold (λ n p. n + cond (numbered (number l.sheet p)) 1 0) l.count (left l.code.file.now l.range.end l.place) ≡ count_by (λ p. numbered (number l.sheet p)) (places l.code.file.now l.k)) ×
+    (l.count ≤ l.place) × (l.place ≤ l.range.end)
 
 abbrev pub decreases-loop-place : goal.decreases-loop-place
-decreases-loop-place l = l.code.end - l.place
+decreases-loop-place l = l.range.end - l.place

@@ -16,10 +16,10 @@ loop-k-init c = search (rules, peaks_none, largest_none)
 
 pub loop-k-preserved : goal.loop-k-preserved
 loop-k-preserved c =
-    let f = c.args.file.now in
+    let f = c.args.code.now.file.now in
     let l : c.loop-k.k < methods f = search rules in
     let p : c.peak_of-peak.result ≡ peak f c.args.sheet.now c.loop-k.k =
-    c.peak_of-peak.ensures ∙ ap (λ t. peak f t c.loop-k.k) c.loop-k.invariant.0 ∙ peaks_peak f c.requires.layout c.args.sheet.now c.loop-k.k (omega arith) c.loop-k.k l in
+    c.peak_of-peak.ensures ∙ ap (λ t. peak f t c.loop-k.k) c.loop-k.invariant.0 ∙ peaks_peak f c.args.code.now.layout c.args.sheet.now c.loop-k.k (omega arith) c.loop-k.k l in
     let m : c.max-largest.result ≡ max c.loop-k.largest c.peak_of-peak.result = search rules in (
       written c.loop-k.invariant.0 c.entry_place.ensures p ∙ sym (peaks_more f c.args.sheet.now c.loop-k.k),
       m ∙ larger c.loop-k.invariant.1 p ∙ sym (largest_more f c.args.sheet.now c.loop-k.k),

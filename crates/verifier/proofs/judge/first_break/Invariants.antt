@@ -8,9 +8,9 @@ use Rattle.verifier.proofs.judge.first_break.Given as goal
 
 abbrev pub invariant-loop-place : goal.invariant-loop-place
 invariant-loop-place l =
-    (first (λ p. breaks l.file l.sheet (record { method = l.k; place = p })) (left l.file l.code.end l.place) ≡
-    first (λ p. breaks l.file l.sheet (record { method = l.k; place = p })) (places l.file l.k)) ×
-    ((q : ℕ) → Memᴰ q (left l.file l.code.end l.place) → Memᴰ q (places l.file l.k))
+    (first (λ p. breaks l.code.file.now l.sheet (record { method = l.k; place = p })) (left l.code.file.now l.range.end l.place) ≡
+    first (λ p. breaks l.code.file.now l.sheet (record { method = l.k; place = p })) (places l.code.file.now l.k)) ×
+    ((q : ℕ) → Memᴰ q (left l.code.file.now l.range.end l.place) → Memᴰ q (places l.code.file.now l.k))
 
 abbrev pub decreases-loop-place : goal.decreases-loop-place
-decreases-loop-place l = l.code.end - l.place
+decreases-loop-place l = l.range.end - l.place

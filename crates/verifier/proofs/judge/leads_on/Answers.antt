@@ -2,19 +2,16 @@ use Rattle.verifier.proofs.Steps.{place_room, place_short, on_none, on_one, on_t
 use Rattle.verifier.proofs.judge.leads_on.Goals as goal
 
 pub successors-requires : goal.successors-requires
-successors-requires c =
-    let f = c.args.file.now in
-    let rv = c.args.returns_value.now in
-    (place_room f rv c.requires.ready c.args.k c.args.place c.requires.at, place_short f rv c.requires.ready c.args.k c.args.place c.requires.at)
+successors-requires c = (place_room c.args.code.now c.args.k c.args.place c.requires, place_short c.args.code.now c.args.k c.args.place c.requires)
 
 pub returns-in-Nowhere : goal.returns-in-Nowhere
-returns-in-Nowhere c = on_none c.args.file.now c.args.returns_value.now c.requires.ready c.args.k c.args.place c.requires.at c.args.sheet.now c.args.depth _ c.code_range-end.ensures.ends c.in-Nowhere.ensures
+returns-in-Nowhere c = on_none c.args.code.now c.args.k c.args.place c.requires c.args.sheet.now c.args.depth _ c.code_range-end.ensures.ends c.in-Nowhere.ensures
 
 pub returns-in-One : goal.returns-in-One
-returns-in-One c = on_one c.args.file.now c.args.returns_value.now c.requires.ready c.args.k c.args.place c.requires.at c.args.sheet.now c.args.depth _ c.code_range-end.ensures.ends c.in-One.next c.has_number.result c.in-One.ensures c.has_number.ensures
+returns-in-One c = on_one c.args.code.now c.args.k c.args.place c.requires c.args.sheet.now c.args.depth _ c.code_range-end.ensures.ends c.in-One.next c.has_number.result c.in-One.ensures c.has_number.ensures
 
 pub returns-then-has_number : goal.returns-then-has_number
-returns-then-has_number c = on_two c.args.file.now c.args.returns_value.now c.requires.ready c.args.k c.args.place c.requires.at c.args.sheet.now c.args.depth _ c.code_range-end.ensures.ends c.in-Two.target c.in-Two.next c.has_number-in-Two.result c.has_number-then-has_number.result c.in-Two.ensures c.has_number-in-Two.ensures c.has_number-then-has_number.ensures c.if-has_number.true
+returns-then-has_number c = on_two c.args.code.now c.args.k c.args.place c.requires c.args.sheet.now c.args.depth _ c.code_range-end.ensures.ends c.in-Two.target c.in-Two.next c.has_number-in-Two.result c.has_number-then-has_number.result c.in-Two.ensures c.has_number-in-Two.ensures c.has_number-then-has_number.ensures c.if-has_number.true
 
 pub returns-else-has_number : goal.returns-else-has_number
-returns-else-has_number c = on_not c.args.file.now c.args.returns_value.now c.requires.ready c.args.k c.args.place c.requires.at c.args.sheet.now c.args.depth _ c.code_range-end.ensures.ends c.in-Two.target c.in-Two.next c.has_number-in-Two.result c.in-Two.ensures c.has_number-in-Two.ensures c.if-has_number.false
+returns-else-has_number c = on_not c.args.code.now c.args.k c.args.place c.requires c.args.sheet.now c.args.depth _ c.code_range-end.ensures.ends c.in-Two.target c.in-Two.next c.has_number-in-Two.result c.in-Two.ensures c.has_number-in-Two.ensures c.if-has_number.false

@@ -1,0 +1,13 @@
+//! What a sheet says.
+ghost use Rattle.std.specs.Prelude.{◌≡◌};
+ghost use Rattle.verifier.specs.Numbering.{number};
+
+/// The entry of a place without a number.
+pub(crate) const BLANK: u16 = 65_535;
+
+/// What the sheet says of `place`; past its end it is blank.
+pub fn entry_at(sheet: &[u16], place: usize) -> u16
+    ensures { result ≡ number sheet.now place }
+{
+    sheet.get(place).copied().unwrap_or(BLANK)
+}
