@@ -7,8 +7,8 @@ ghost use Rattle.verifier.specs.Numbering.{number, numbered, count_to, largest_t
 
 use crate::code::Code;
 use crate::method_peak::peak_of;
-use crate::sheet::entry_at;
-use bytecode::places::{code_range, next_place};
+use crate::sheet::{entry_at, is_number};
+use bytecode::places::code_places;
 use format::layout::{entry_place, method_count};
 
 /// How many places of method `k` are numbered.
@@ -17,14 +17,9 @@ fn count_method(code: &Code, sheet: &[u16], k: usize) -> usize
     ensures is { result ≡ count_by (λ p. numbered (number sheet.now p)) (places (bytes code.now) k) }
     ensures few { result ≤ 65536 }
 {
-    let range = code_range(code.file, k);
-    let mut count = 0;
-    let mut place = range.start;
-    while place < range.end {
-        count += usize::from(entry_at(sheet, place) <= 255);
-        place = next_place(code.file, place, range.end);
-    }
-    count
+    code_places(code.file, k)
+        .filter(|place| is_number(entry_at(sheet, *place)))
+        .count()
 }
 
 /// How many places of the file are numbered.

@@ -10,7 +10,7 @@ ghost use Rattle.verifier.specs.Verdicts.{Place};
 use crate::code::Code;
 use crate::sheet::{BLANK, entry_at};
 use bytecode::flow::{leaves_at, successors, takes_at};
-use bytecode::places::{code_range, next_place};
+use bytecode::places::{code_places, code_range};
 use bytecode::successors::Successors;
 
 /// The depth of the operand stack after the instruction at `place`, where it is `depth` before; nothing if values lack or it gets too deep.
@@ -75,13 +75,5 @@ pub(crate) fn first_break(code: &Code, sheet: &[u16], k: usize) -> Option<usize>
     requires { k < methods (bytes code.now) }
     ensures { result ≡ first (λ p. breaks (bytes code.now) sheet.now (record { method = k; place = p })) (places (bytes code.now) k) }
 {
-    let range = code_range(code.file, k);
-    let mut place = range.start;
-    while place < range.end {
-        if breaks(code, sheet, k, place) {
-            return Some(place);
-        }
-        place = next_place(code.file, place, range.end);
-    }
-    None
+    code_places(code.file, k).find(|place| breaks(code, sheet, k, *place))
 }

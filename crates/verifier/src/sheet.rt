@@ -1,6 +1,6 @@
 //! What a sheet says.
 ghost use Rattle.std.specs.Prelude.{◌≡◌};
-ghost use Rattle.verifier.specs.Numbering.{number};
+ghost use Rattle.verifier.specs.Numbering.{number, numbered};
 
 /// The entry of a place without a number.
 pub(crate) const BLANK: u16 = 65_535;
@@ -10,4 +10,11 @@ pub fn entry_at(sheet: &[u16], place: usize) -> u16
     ensures { result ≡ number sheet.now place }
 {
     sheet.get(place).copied().unwrap_or(BLANK)
+}
+
+/// Whether an entry is a number.
+pub(crate) fn is_number(entry: u16) -> bool
+    ensures { result ≡ numbered entry }
+{
+    entry <= 255
 }
