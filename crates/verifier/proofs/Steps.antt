@@ -11,6 +11,7 @@ use Rattle.bytecode.specs.Places.{places, is_place, code_end, next, is, is_jump,
 use Rattle.bytecode.proofs.Accepted.{code_room, file_short}
 use Rattle.verifier.specs.Numbering.{number}
 use Rattle.verifier.specs.declared.code.Code.{Code}
+use Rattle.verifier.specs.declared.point.Point.{Point}
 use Rattle.verifier.specs.Bytes.{bytes}
 use Rattle.verifier.specs.Verdicts.{Place}
 use Rattle.verifier.proofs.Places.{place_in, is_place_in}
@@ -39,9 +40,21 @@ all_same : (t u : ℕ → Bool) (xs : List ℕ) → ((x : ℕ) → In x xs → t
 all_same t u [] h = refl
 all_same t u (x ∷ xs) h = let a = h x (Memᴰ.head refl) in let r = all_same t u xs (λ y m. h y (Memᴰ.tail m)) in rw (a, r)
 
-module _ (c : Code) (k p : ℕ) (a : Place (bytes c) k p) where
+module _ (x : Point) where
+  abbrev c : Code
+  c = x.code.now
+
   abbrev f : List ℕ
   f = bytes c
+
+  abbrev k : ℕ
+  k = x.method
+
+  abbrev p : ℕ
+  p = x.place
+
+  abbrev a : Place f k p
+  a = (x.listed, is_place_in f k p x.decoded)
 
   place_before : (q : ℕ) → In q (places f k) → q < code_end f k
   place_before q m =

@@ -10,6 +10,7 @@ mod fill;
 mod judge;
 mod method_peak;
 pub mod pending;
+mod point;
 pub mod sheet;
 mod worklist;
 

@@ -3,13 +3,12 @@ ghost use Rattle.std.specs.Prelude.{◌≡◌, ◌+◌, ◌<◌, ◌≤◌, [], 
 ghost use Rattle.ring.specs.Ring.{items, capacity};
 ghost use Rattle.format.specs.Layout.{methods};
 ghost use Rattle.verifier.specs.Bytes.{bytes};
-ghost use Rattle.verifier.specs.Verdicts.{Place};
 ghost use Rattle.verifier.specs.Numbering.{blank, blanks, number};
 ghost use Rattle.verifier.specs.Worklist.{Work, pend_if, turn, turns_left, ClosedTo, Complete};
 
 use crate::code::Code;
-use crate::judge::result_at;
 use crate::pending::Pending;
+use crate::point::Point;
 use crate::sheet::{BLANK, entry_at};
 use bytecode::flow::successors;
 use bytecode::places::code_range;
@@ -38,25 +37,23 @@ fn give(sheet: &mut [u16], line: &mut Ring<Pending>, end: usize, place: usize, d
 }
 
 /// One turn: the place that waited gives the depth after it to its successors.
-fn go_on(code: &Code, k: usize, sheet: &mut [u16], line: &mut Ring<Pending>, waited: Pending)
-    requires at { Place (bytes code.now) k waited.place }
-    requires small { waited.number ≤ 255 }
-    requires long { length sheet.old ≡ length (bytes code.now) }
-    requires room { turns_left (bytes code.now) k (record { sheet = sheet.old; pending = items line.old }) ≤ capacity line.old }
-    ensures work { ◌≡◌ {A = Work} (record { sheet = sheet.new; pending = items line.new }) (turn (bytes code.now) k (record { sheet = sheet.old; pending = items line.old }) waited) }
+fn go_on(point: &Point, sheet: &mut [u16], line: &mut Ring<Pending>, depth: u8)
+    requires long { length sheet.old ≡ length (bytes point.now.code.now) }
+    requires room { turns_left (bytes point.now.code.now) point.now.method (record { sheet = sheet.old; pending = items line.old }) ≤ capacity line.old }
+    ensures work { ◌≡◌ {A = Work} (record { sheet = sheet.new; pending = items line.new }) (turn (bytes point.now.code.now) point.now.method (record { sheet = sheet.old; pending = items line.old }) (record { place = point.now.place; number = depth })) }
     ensures same { capacity line.new ≡ capacity line.old }
 {
-    let place = waited.place as usize;
-    let Some(depth) = result_at(code, k, place, waited.number as u8) else {
+    let Some(result) = point.result(depth) else {
         return;
     };
-    let end = code_range(code.file, k).end;
-    match successors(code.file, place) {
+    let file = point.code.file;
+    let end = code_range(file, point.method).end;
+    match successors(file, point.place) {
         Successors::Nowhere => {}
-        Successors::One(next) => give(sheet, line, end, next, depth),
+        Successors::One(next) => give(sheet, line, end, next, result),
         Successors::Two(target, next) => {
-            give(sheet, line, end, target, depth);
-            give(sheet, line, end, next, depth);
+            give(sheet, line, end, target, result);
+            give(sheet, line, end, next, result);
         }
     }
 }
@@ -80,7 +77,8 @@ fn number_method(code: &Code, k: usize, sheet: &mut [u16], line: &mut Ring<Pendi
         unreachable()
     };
     while let Some(waited) = line.pop() {
-        go_on(code, k, sheet, line, waited);
+        let point = code.point(k, waited.place as usize);
+        go_on(&point, sheet, line, waited.number as u8);
     }
 }
 
