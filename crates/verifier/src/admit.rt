@@ -14,6 +14,7 @@ ghost use Rattle.verifier.specs.Verdicts.{AgreesWithCheck};
 use crate::code::Code;
 use crate::judge::first_break;
 use crate::method_peak::peak_of;
+use crate::refused::refused;
 use crate::sheet::entry_at;
 use format::layout::{entry_place, method_count};
 use format::reader::read;
@@ -46,15 +47,8 @@ fn bad_peak(code: &Code, sheet: &[u16], k: usize) -> bool
 fn every_peak_right(code: &Code, sheet: &[u16]) -> Result<(), Refusal>
     ensures { result_err result ≡ refused BadPeak (option_map entry (first (bad_peak (bytes code.now) sheet.now) (upto (methods (bytes code.now))))) }
 {
-    for k in 0..method_count(code.file) as usize {
-        if bad_peak(code, sheet, k) {
-            return Err(Refusal {
-                rule: Rule::BadPeak,
-                place: entry_place(k),
-            });
-        }
-    }
-    Ok(())
+    let first = (0..method_count(code.file) as usize).find(|k| bad_peak(code, sheet, *k));
+    refused(Rule::BadPeak, first.map(entry_place))
 }
 
 /// A file with a sheet that it is admitted with. It is made by `admit` alone.

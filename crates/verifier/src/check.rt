@@ -16,6 +16,7 @@ use crate::code::Code;
 use crate::fill::{count_numbered, write_peaks};
 use crate::judge::first_break;
 use crate::pending::Pending;
+use crate::refused::refused;
 use crate::sheet::BLANK;
 use crate::worklist::number_methods;
 use bytecode::places::code_range;
@@ -37,15 +38,8 @@ fn every_method_numberable(code: &Code, sheet: &[u16]) -> Result<(), Refusal>
     requires { Complete (bytes code.now) sheet.now }
     ensures { result_err result ≡ refused NoNumbering (option_map (code_address (bytes code.now)) (first (unnumberable (bytes code.now)) (upto (methods (bytes code.now))))) }
 {
-    for k in 0..method_count(code.file) as usize {
-        if unnumberable(code, sheet, k) {
-            return Err(Refusal {
-                rule: Rule::NoNumbering,
-                place: code_range(code.file, k).start,
-            });
-        }
-    }
-    Ok(())
+    let first = (0..method_count(code.file) as usize).find(|k| unnumberable(code, sheet, *k));
+    refused(Rule::NoNumbering, first.map(|k| code_range(code.file, k).start))
 }
 
 /// Numbers a blank sheet of as many entries as the file has bytes, and answers its tally. If some method has no numbering, the sheet is blank again.

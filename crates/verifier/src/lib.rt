@@ -11,6 +11,7 @@ mod judge;
 mod method_peak;
 pub mod pending;
 mod point;
+mod refused;
 pub mod sheet;
 mod worklist;
 
