@@ -12,27 +12,21 @@ ghost use Rattle.verifier.specs.Numbering.{breaks, bad_peak, admit_refusal};
 ghost use Rattle.verifier.specs.Verdicts.{AgreesWithCheck};
 
 use crate::code::Code;
-use crate::judge::first_break;
 use crate::method_peak::peak_of;
 use crate::refused::refused;
 use crate::sheet::entry_at;
+use bytecode::rules::every_place_keeps;
 use format::layout::{entry_place, method_count};
 use format::reader::read;
 use refusals::{Refusal, Rule};
 
 /// Every place keeps the sheet's rule.
-fn every_place_keeps(code: &Code, sheet: &[u16]) -> Result<(), Refusal>
+fn every_number_right(code: &Code, sheet: &[u16]) -> Result<(), Refusal>
     ensures { result_err result ≡ refused BadNumber (option_map (λ (x : Point). x.place) (first (breaks (bytes code.now) sheet.now) (points (bytes code.now)))) }
 {
-    for k in 0..method_count(code.file) as usize {
-        if let Some(place) = first_break(code, sheet, k) {
-            return Err(Refusal {
-                rule: Rule::BadNumber,
-                place,
-            });
-        }
-    }
-    Ok(())
+    every_place_keeps(code.file, Rule::BadNumber, |k, place| {
+        code.point(k, place).breaks(sheet)
+    })
 }
 
 /// Whether the sheet's entry of method `k` is not its peak.
@@ -82,7 +76,7 @@ pub fn admit<'f, 's>(file: &'f [u8], sheet: &'s [u16]) -> Result<Admitted<'f, 's
         });
     }
     let code = Code::of(file)?;
-    every_place_keeps(&code, sheet)?;
+    every_number_right(&code, sheet)?;
     every_peak_right(&code, sheet)?;
     Ok(Admitted { file, sheet })
 }

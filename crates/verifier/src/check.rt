@@ -39,7 +39,10 @@ fn every_method_numberable(code: &Code, sheet: &[u16]) -> Result<(), Refusal>
     ensures { result_err result ≡ refused NoNumbering (option_map (code_address (bytes code.now)) (first (unnumberable (bytes code.now)) (upto (methods (bytes code.now))))) }
 {
     let first = (0..method_count(code.file) as usize).find(|k| unnumberable(code, sheet, *k));
-    refused(Rule::NoNumbering, first.map(|k| code_range(code.file, k).start))
+    refused(
+        Rule::NoNumbering,
+        first.map(|k| code_range(code.file, k).start),
+    )
 }
 
 /// Numbers a blank sheet of as many entries as the file has bytes, and answers its tally. If some method has no numbering, the sheet is blank again.

@@ -54,7 +54,7 @@ impl Point<'_, '_> {
     }
 
     /// Whether the place breaks the rule.
-    fn breaks(&self, sheet: &[u16]) -> bool
+    pub(crate) fn breaks(&self, sheet: &[u16]) -> bool
         ensures { result ≡ breaks (bytes self.now.code.now) sheet.now (record { method = self.now.method; place = self.now.place }) }
     {
         let entry = entry_at(sheet, self.place);
