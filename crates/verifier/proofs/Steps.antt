@@ -105,9 +105,6 @@ module _ (x : Point) where
     by_number : (xs : List ℕ) → xs ≡ successors f p → all found xs ≡ all onward (successors f p)
     by_number xs x = ap (all found) x ∙ sym (all_same onward found (successors f p) same)
 
-    pub on_none : [] ≡ successors f p → true ≡ all onward (successors f p)
-    on_none x = by_number [] x
-
     pub on_one : (q : ℕ) (b : Bool) → q ∷ [] ≡ successors f p → b ≡ found q → b ≡ all onward (successors f p)
     on_one q b x u = u ∙ once (found q) ∙ by_number (q ∷ []) x
       where

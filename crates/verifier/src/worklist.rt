@@ -16,6 +16,8 @@ use bytecode::successors::Successors;
 use format::layout::method_count;
 use ring::Ring;
 
+// The sheet and the line stay parameters of their own: a struct of both would have to say, at each method, that it still lends the same sheet.
+
 /// Numbers a place before `end` that is still blank, and lets it wait.
 fn give(sheet: &mut [u16], line: &mut Ring<Pending>, end: usize, place: usize, depth: u8)
     requires short { end < 65536 }
@@ -68,14 +70,8 @@ fn number_method(code: &Code, k: usize, sheet: &mut [u16], line: &mut Ring<Pendi
     ensures empty { items line.new ≡ [] }
     ensures same { capacity line.new ≡ capacity line.old }
 {
-    let start = code_range(code.file, k).start;
-    sheet[start] = 0;
-    let Ok(()) = line.push(Pending {
-        place: start as u16,
-        number: 0,
-    }) else {
-        unreachable()
-    };
+    let range = code_range(code.file, k);
+    give(sheet, line, range.end, range.start, 0);
     while let Some(waited) = line.pop() {
         let point = code.point(k, waited.place as usize);
         go_on(&point, sheet, line, waited.number as u8);

@@ -8,13 +8,20 @@ use Rattle.verifier.specs.Numbering.{number}
 use Rattle.verifier.specs.Worklist.{Spreads, turns_left}
 use Rattle.verifier.proofs.Turns.{work}
 use Rattle.verifier.proofs.Methods.{loop_keeps, loop_falls, loop_ends}
-use Rattle.verifier.proofs.Rounds.{begins}
+use Rattle.verifier.proofs.Rounds.{start_room, begins}
 use Rattle.verifier.proofs.worklist.number_method.Goals as goal
+
+pub give-requires : goal.give-requires
+give-requires c = record {
+  short = let i = c.code_range-range.ensures.inside in omega arith;
+  long = let i = c.code_range-range.ensures.inside in let l = c.requires.closed.long in omega arith;
+  room = λ _ _. start_room c.args.code.now.file.now c.args.code.now.layout c.args.k c.requires.method (items c.args.line.now) (capacity c.args.line.now) c.requires.empty c.requires.room;
+}
 
 pub loop-waited-init : goal.loop-waited-init
 loop-waited-init c = (
-  begins c.args.code.now.file.now c.args.code.now.layout c.args.k c.requires.method c.args.sheet.now c.code_range-start.result.start (items c.args.line.now) (items c.push.new.self) (capacity c.args.line.now) (capacity c.push.new.self) c.requires.closed c.code_range-start.ensures.starts c.requires.empty c.requires.room c.push.ensures.capacity c.in-Ok.ensures.items.1,
-  refl,
+  begins c.args.code.now.file.now c.args.code.now.layout c.args.k c.requires.method c.args.sheet.now c.code_range-range.result.start c.code_range-range.result.end (items c.args.line.now) (work c.give.new.sheet (items c.give.new.line)) (capacity c.args.line.now) (capacity c.give.new.line) c.requires.closed c.code_range-range.ensures.starts c.code_range-range.ensures.ends c.requires.empty c.requires.room c.give.ensures.same c.give.ensures.work,
+  c.give.ensures.same,
 )
 
 -- what waits first is a numbered place of the method
@@ -58,10 +65,10 @@ loop-waited-preserved c =
 pub returns : goal.returns
 returns c =
     let f = c.args.code.now.file.now in
-    let e = c.in_default-pop.ensures.items in
+    let e = c.in_default.ensures.items in
     let h : Spreads f c.args.k (work c.loop-waited.sheet []) = subst (λ z. Spreads f c.args.k (work c.loop-waited.sheet z)) e.0 c.loop-waited.invariant.0.0 in
     record {
-      closed = loop_ends f c.args.code.now.layout c.args.k c.requires.method c.args.sheet.now c.requires.closed c.loop-waited.sheet h (rw (sym c.code_range-start.ensures.starts) c.loop-waited.invariant.0.1);
+      closed = loop_ends f c.args.code.now.layout c.args.k c.requires.method c.args.sheet.now c.requires.closed c.loop-waited.sheet h c.loop-waited.invariant.0.1;
       empty = e.1;
-      same = c.in_default-pop.ensures.capacity ∙ c.loop-waited.invariant.1 ∙ c.push.ensures.capacity;
+      same = c.in_default.ensures.capacity ∙ c.loop-waited.invariant.1;
     }
