@@ -14,11 +14,8 @@ returns-in_err-read c =
     let r : result_err c.from_residual.result ≡ check_refusal f (length c.args.sheet.now) (length c.args.pending.now) = search rules in
     record { refuses = r; tally = search rules; sheet = s; laws = laws_of f c.args.sheet.now c.args.sheet.now (length c.args.pending.now) _ r s }
 
-pub returns-then-sheet-size-clause-laws : goal.returns-then-sheet-size-clause-laws
-returns-then-sheet-size-clause-laws c = search (rules, laws_of)
-
-pub returns : goal.returns
-returns c =
+pub returns-clause-laws : goal.returns-clause-laws
+returns-clause-laws c =
     let f = c.args.file.now in
     let s = c.args.sheet.now in
     let g = sym c.in_ok-read.ensures.refuses in
@@ -28,9 +25,4 @@ returns c =
     let r = c.fill_sheet.ensures.refuses ∙ sym (late f (length s) (length c.args.pending.now) g a b) in
     let t = subst (λ n. c.fill_sheet.new.sheet ++ post_of 0 n s ≡ sheet_after f s (length c.args.pending.now)) (sym whole)
     (left_filled f s c.fill_sheet.new.sheet (length c.args.pending.now) c.fill_sheet.result g a b c.fill_sheet.ensures.refuses c.fill_sheet.ensures.sheet) in
-    record {
-      refuses = r;
-      tally = c.fill_sheet.ensures.tally;
-      sheet = t;
-      laws = laws_of f s _ (length c.args.pending.now) _ r t;
-    }
+    laws_of f s _ (length c.args.pending.now) _ r t

@@ -1,7 +1,7 @@
 use Rattle.std.proofs.Common.{◌≡◌, ℕ, ◌<◌, max, List, set, sym, ap, ◌∙◌, arith, rules}
 use Rattle.format.specs.Layout.{methods}
 use Rattle.verifier.specs.Numbering.{peak}
-use Rattle.verifier.proofs.Tally.{largest_none, largest_more, peaks_none, peaks_more}
+use Rattle.verifier.proofs.Tally.{largest_more, peaks_more}
 use Rattle.verifier.proofs.Peaks.{peaks_peak}
 use Rattle.verifier.proofs.fill.write_peaks.Goals as goal
 
@@ -10,9 +10,6 @@ written a b d = cc
 
 larger : {a b x y : ℕ} → a ≡ b → x ≡ y → max a x ≡ max b y
 larger p q = cc
-
-pub loop-k-init : goal.loop-k-init
-loop-k-init c = search (rules, peaks_none, largest_none)
 
 pub loop-k-preserved : goal.loop-k-preserved
 loop-k-preserved c =
