@@ -45,6 +45,8 @@ fn every_peak_right(code: &Code, sheet: &[u16]) -> Result<(), Refusal>
     refused(Rule::BadPeak, first.map(entry_place))
 }
 
+// No ghost field says that the pair is admitted: a start asks for that, and one that can't show it has to be turned down (docs/turned-down.md).
+
 /// A file with a sheet that it is admitted with. It is made by `admit` alone.
 #[derive(Clone, Copy)]
 pub struct Admitted<'f, 's> {
