@@ -11,7 +11,7 @@ use crate::walk::Places;
 use format::layout::{debug_head, method_entry};
 
 /// Where the code of a method begins and ends.
-#[derive(Clone, Copy)]
+#[derive(Clone, Copy, PartialEq, Eq, Debug)]
 pub struct CodeRange {
     pub start: usize,
     pub end: usize,

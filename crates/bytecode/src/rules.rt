@@ -5,7 +5,7 @@ ghost use Rattle.std.specs.Option.{option_map};
 ghost use Rattle.std.specs.Result.{result_err};
 ghost use Rattle.refusals.specs.declared.Rule.TheVariants.{MixedReturns};
 ghost use Rattle.format.specs.Search.{first, upto};
-ghost use Rattle.format.specs.Layout.{methods, parameters, locals, code_address};
+ghost use Rattle.format.specs.Layout.{methods, code_address};
 ghost use Rattle.format.specs.Rules.{refused};
 ghost use Rattle.format.specs.Parts.{Accepted};
 ghost use Rattle.bytecode.specs.Places.{Point, points, places, code_end};
@@ -17,6 +17,7 @@ use crate::instruction::Instruction;
 use crate::opcodes::{IRETURN, RETURN};
 use crate::places::{code_places, code_range, holds, instruction_end, is_place};
 use format::layout::{constant_count, message_count, method_count, method_entry};
+use format::refuse::refuse_at;
 use refusals::{Refusal, Rule};
 
 /// Whether the instruction at `place`, in method `k`, is unknown or passes the method's end.
@@ -25,15 +26,6 @@ fn bad_instruction(file: &[u8], k: usize, place: usize) -> bool
     ensures { result ≡ bad_instruction file.now (record { method = k; place = place }) }
 {
     instruction_end(file, place, code_range(file, k).end).is_none()
-}
-
-/// How many variables method `k` has.
-fn variable_count(file: &[u8], k: usize) -> u16
-    requires { k < 256 }
-    ensures { result ≡ parameters file.now k + locals file.now k }
-{
-    let entry = method_entry(file, k);
-    entry.parameters as u16 + entry.locals as u16
 }
 
 /// Whether the index of the instruction at `place`, in method `k`, is outside its table.
@@ -46,7 +38,7 @@ fn bad_index(file: &[u8], k: usize, place: usize) -> bool
     };
     match instruction {
         Instruction::Iload(i) | Instruction::Istore(i) | Instruction::Iinc(i, _) => {
-            i as u16 >= variable_count(file, k)
+            i as u16 >= method_entry(file, k).variable_count()
         }
         Instruction::Ldc(i) => i >= constant_count(file),
         Instruction::Invokevirtual(i) => i >= method_count(file),
@@ -109,15 +101,12 @@ fn returns_of_one_kind(file: &[u8]) -> Result<(), Refusal>
     requires { Accepted file.now }
     ensures { result_err result ≡ refused MixedReturns (option_map (code_address file.now) (first (mixed_returns file.now) (upto (methods file.now)))) }
 {
-    for k in 0..method_count(file) as usize {
-        if mixed_returns(file, k) {
-            return Err(Refusal {
-                rule: Rule::MixedReturns,
-                place: code_range(file, k).start,
-            });
-        }
-    }
-    Ok(())
+    let methods = method_count(file) as usize;
+    let offender = (0..methods).find(|k| mixed_returns(file, *k));
+    refuse_at(
+        Rule::MixedReturns,
+        offender.map(|k| code_range(file, k).start),
+    )
 }
 
 /// Keeps every rule of the code, or refuses by the first that is broken. Only for the verifier: the layout of the file is accepted.

@@ -13,11 +13,11 @@ ghost use Rattle.verifier.specs.Verdicts.{AgreesWithCheck};
 
 use crate::code::Code;
 use crate::method_peak::peak_of;
-use crate::refused::refused;
 use crate::sheet::entry_at;
 use bytecode::rules::every_place_keeps;
 use format::layout::{entry_place, method_count};
 use format::reader::read;
+use format::refuse::refuse_at;
 use refusals::{Refusal, Rule};
 
 /// Every place keeps the sheet's rule.
@@ -42,7 +42,7 @@ fn every_peak_right(code: &Code, sheet: &[u16]) -> Result<(), Refusal>
     ensures { result_err result ≡ refused BadPeak (option_map entry (first (bad_peak (bytes code.now) sheet.now) (upto (methods (bytes code.now))))) }
 {
     let first = (0..method_count(code.file) as usize).find(|k| bad_peak(code, sheet, *k));
-    refused(Rule::BadPeak, first.map(entry_place))
+    refuse_at(Rule::BadPeak, first.map(entry_place))
 }
 
 // No ghost field says that the pair is admitted: a start asks for that, and one that can't show it has to be turned down (docs/turned-down.md).

@@ -16,12 +16,12 @@ use crate::code::Code;
 use crate::fill::{count_numbered, write_peaks};
 use crate::judge::first_break;
 use crate::pending::Pending;
-use crate::refused::refused;
 use crate::sheet::BLANK;
 use crate::worklist::number_methods;
 use bytecode::places::code_range;
 use format::layout::method_count;
 use format::reader::read;
+use format::refuse::refuse_at;
 use refusals::{Refusal, Rule};
 
 /// Whether no numbering of method `k` keeps the rule, by a sheet in which nothing is left to number.
@@ -39,7 +39,7 @@ fn every_method_numberable(code: &Code, sheet: &[u16]) -> Result<(), Refusal>
     ensures { result_err result ≡ refused NoNumbering (option_map (code_address (bytes code.now)) (first (unnumberable (bytes code.now)) (upto (methods (bytes code.now))))) }
 {
     let first = (0..method_count(code.file) as usize).find(|k| unnumberable(code, sheet, *k));
-    refused(
+    refuse_at(
         Rule::NoNumbering,
         first.map(|k| code_range(code.file, k).start),
     )

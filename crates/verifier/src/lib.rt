@@ -11,7 +11,6 @@ mod judge;
 mod method_peak;
 pub mod pending;
 mod point;
-mod refused;
 pub mod sheet;
 mod worklist;
 
