@@ -20,3 +20,4 @@ pub mod Walking
 pub mod Gifts
 pub mod Rounds
 pub mod Checked
+pub mod Sought

@@ -1,5 +1,5 @@
--- What the code may read at a place of a file that is ready, and the depth after its instruction. Assumes nothing.
-use Rattle.std.proofs.Common.{◌≡◌, ℕ, ◌+◌, ◌-◌, ◌<◌, ◌≤◌, Bool, true, false, cond, ◌&&◌, ◌||◌, eqb, ltb, leb, ◌⊎◌, List, [], ◌∷◌, length, Some, None, sym, refl, ap, ◌∙◌, inl, inr, arith}
+-- What may be read at a place of a file whose code passes its rules, and the depth after its instruction. Assumes nothing.
+use Rattle.std.proofs.Common.{◌≡◌, ℕ, ◌+◌, ◌<◌, ◌≤◌, Bool, true, false, cond, ◌&&◌, ◌||◌, eqb, ltb, leb, ◌⊎◌, List, [], ◌∷◌, length, Some, None, sym, refl, ap, ◌∙◌, inl, inr, arith}
 use mathlib.Core.List.Memᴰ
 use Rattle.std.proofs.lemmas.Bool.{both_ways, lt-ltb}
 use Rattle.std.proofs.lemmas.Bool.Decides.{nat_tests}
@@ -7,10 +7,12 @@ use Rattle.format.specs.Search.{all, when}
 use Rattle.format.specs.Layout.{byte, methods, constants, messages, parameters, locals}
 use Rattle.format.proofs.Sounds.{sound}
 use Rattle.format.proofs.Finds.{In, some_none}
-use Rattle.bytecode.specs.Places.{places, is_place, code_end, next, is, is_jump, jump_target, takes, leaves, successors}
+use Rattle.bytecode.specs.Places.{places, is_place, code_end, next, is, is_jump, jump_target, successors}
 use Rattle.bytecode.proofs.Accepted.{code_room, file_short}
-use Rattle.verifier.specs.Numbering.{number, depth_after, balanced, numbered}
-use Rattle.verifier.specs.Ready.{Ready}
+use Rattle.verifier.specs.Numbering.{number}
+use Rattle.verifier.specs.declared.code.Code.{Code}
+use Rattle.verifier.specs.declared.point.Point.{Point}
+use Rattle.verifier.specs.Bytes.{bytes}
 use Rattle.verifier.specs.Verdicts.{Place}
 use Rattle.verifier.proofs.Places.{place_in, is_place_in}
 use Rattle.verifier.proofs.CodeRules.{code_kept}
@@ -38,11 +40,26 @@ all_same : (t u : ℕ → Bool) (xs : List ℕ) → ((x : ℕ) → In x xs → t
 all_same t u [] h = refl
 all_same t u (x ∷ xs) h = let a = h x (Memᴰ.head refl) in let r = all_same t u xs (λ y m. h y (Memᴰ.tail m)) in rw (a, r)
 
-module _ (f : List ℕ) (rv : List Bool) (g : Ready f rv) (k p : ℕ) (a : Place f k p) where
+module _ (x : Point) where
+  abbrev c : Code
+  c = x.code.now
+
+  abbrev f : List ℕ
+  f = bytes c
+
+  abbrev k : ℕ
+  k = x.method
+
+  abbrev p : ℕ
+  p = x.place
+
+  abbrev a : Place f k p
+  a = (x.listed, is_place_in f k p x.decoded)
+
   place_before : (q : ℕ) → In q (places f k) → q < code_end f k
   place_before q m =
-      let b = place_in f g.layout k q a.0 m in
-      let e = ((sound f g.layout).method k a.0).code in
+      let b = place_in f c.layout k q a.0 m in
+      let e = ((sound f c.layout).method k a.0).code in
       omega arith
 
   pub place_ends : p < code_end f k
@@ -50,14 +67,14 @@ module _ (f : List ℕ) (rv : List Bool) (g : Ready f rv) (k p : ℕ) (a : Place
 
   -- four bytes of the file stand at a place, and its address has sixteen bits
   pub place_room : p + 4 ≤ length f
-  place_room = let b = place_ends in let r = code_room f k g.layout a.0 in omega arith
+  place_room = let b = place_ends in let r = code_room f k c.layout a.0 in omega arith
 
   pub place_short : p < 65536
-  place_short = let b = place_room in let s = file_short f g.layout in omega arith
+  place_short = let b = place_room in let s = file_short f c.layout in omega arith
 
   -- a call is of a method that there is
   pub call_inside : byte f p ≡ 0xB6 → byte f (p + 1) < methods f
-  call_inside e = calls (byte f p) (byte f (p + 1)) (parameters f k + locals f k) (constants f) (methods f) (messages f) e ((code_kept f g.code).indexed k p a.0 a.1)
+  call_inside e = calls (byte f p) (byte f (p + 1)) (parameters f k + locals f k) (constants f) (methods f) (messages f) e ((code_kept f c.sound).indexed k p a.0 a.1)
     where
       calls : (c i v n m t : ℕ) → c ≡ 0xB6 →
           (is c (0x15 ∷ 0x36 ∷ 0x84 ∷ []) && leb v i || eqb c 0x12 && leb n i || eqb c 0xB6 && leb m i || eqb c 0xF2 && leb t i || eqb c 0xFA && ltb 2 i) ≡ false → i < m
@@ -69,10 +86,10 @@ module _ (f : List ℕ) (rv : List Bool) (g : Ready f rv) (k p : ℕ) (a : Place
     where
       go : ((is_jump (byte f p) ≡ true) × (q ≡ jump_target f p)) ⊎ (q ≡ next f p) → is_place f k q ≡ ltb q (code_end f k)
       go (inl j) =
-          let t : is_place f k q ≡ true = ap (is_place f k) j.1 ∙ (code_kept f g.code).target k p a.0 a.1 j.0 in
+          let t : is_place f k q ≡ true = ap (is_place f k) j.1 ∙ (code_kept f c.sound).target k p a.0 a.1 j.0 in
           let e = place_before q (is_place_in f k q t) in
           t ∙ sym (lt-ltb q (code_end f k) e)
-      go (inr n) = ap (is_place f k) n ∙ (code_kept f g.code).next_in k p a.0 a.1 ∙ ap (λ z. ltb z (code_end f k)) (sym n)
+      go (inr n) = ap (is_place f k) n ∙ (code_kept f c.sound).next_in k p a.0 a.1 ∙ ap (λ z. ltb z (code_end f k)) (sym n)
 
   -- what the test of each successor comes to, by how many there are
   module _ (s : List ℕ) (d e : ℕ) (h : e ≡ code_end f k) where
@@ -87,9 +104,6 @@ module _ (f : List ℕ) (rv : List Bool) (g : Ready f rv) (k p : ℕ) (a : Place
 
     by_number : (xs : List ℕ) → xs ≡ successors f p → all found xs ≡ all onward (successors f p)
     by_number xs x = ap (all found) x ∙ sym (all_same onward found (successors f p) same)
-
-    pub on_none : [] ≡ successors f p → true ≡ all onward (successors f p)
-    on_none x = by_number [] x
 
     pub on_one : (q : ℕ) (b : Bool) → q ∷ [] ≡ successors f p → b ≡ found q → b ≡ all onward (successors f p)
     on_one q b x u = u ∙ once (found q) ∙ by_number (q ∷ []) x
@@ -113,37 +127,11 @@ module _ (f : List ℕ) (rv : List Bool) (g : Ready f rv) (k p : ℕ) (a : Place
         never true e = absurd (both_ways true e refl)
         never false e = refl
 
--- the depth after an instruction, as the code finds it
-module _ (f : List ℕ) (p d : ℕ) where
-  pub too_few : d < takes f p → None ≡ when (balanced f p d) (depth_after f p d)
-  too_few l = go (takes f p) (depth_after f p d) l
-    where
-      go : (t r : ℕ) → d < t → None ≡ when (leb t d && numbered r) r
-      go t r l = grind (arith, nat_tests)
+-- what the depth after an instruction says, where there is one and where there is none
+pub some_result : (b : Bool) (d r : ℕ) → Some d ≡ when b r → (b ≡ true) × (d ≡ r)
+some_result true d r e = (refl, cc)
+some_result false d r e = absurd (some_none e)
 
-  pub too_deep : 255 < (d - takes f p) + leaves f p → None ≡ when (balanced f p d) (depth_after f p d)
-  too_deep l = go (leb (takes f p) d) (depth_after f p d) l
-    where
-      go : (b : Bool) (r : ℕ) → 255 < r → None ≡ when (b && numbered r) r
-      go b r l = grind (arith, nat_tests)
-
-  pub just_right : takes f p ≤ d → (d - takes f p) + leaves f p ≤ 255 → Some ((d - takes f p) + leaves f p) ≡ when (balanced f p d) (depth_after f p d)
-  just_right a b = go (takes f p) (depth_after f p d) a b
-    where
-      go : (t r : ℕ) → t ≤ d → r ≤ 255 → Some r ≡ when (leb t d && numbered r) r
-      go t r a b = grind (arith, nat_tests)
-
-  -- a balanced place keeps the rule as its successors do, any other not at all
-  pub kept_on : (r : ℕ) (b : Bool) (t : ℕ → Bool) → Some r ≡ when (balanced f p d) (depth_after f p d) → b ≡ t r → b ≡ (balanced f p d && t (depth_after f p d))
-  kept_on r b t e h = go (balanced f p d) e
-    where
-      go : (x : Bool) → Some r ≡ when x (depth_after f p d) → b ≡ (x && t (depth_after f p d))
-      go true e = let z : r ≡ depth_after f p d = cc in h ∙ ap t z
-      go false e = absurd (some_none e)
-
-  pub not_kept : (t : Bool) → None ≡ when (balanced f p d) (depth_after f p d) → false ≡ (balanced f p d && t)
-  not_kept t e = go (balanced f p d) e
-    where
-      go : (x : Bool) → None ≡ when x (depth_after f p d) → false ≡ (x && t)
-      go true e = absurd (some_none (sym e))
-      go false e = refl
+pub no_result : (b : Bool) (r : ℕ) → None ≡ when b r → b ≡ false
+no_result true r e = absurd (some_none (sym e))
+no_result false r e = refl

@@ -1,9 +1,9 @@
 -- A walk over a method's places stands at a place of the method. Assumes nothing.
-use Rattle.std.proofs.Common.{◌≡◌, ℕ, ◌<◌, ◌≤◌, Bool, true, false, cond, List, fold, sym, refl, ap, ◌∙◌, subst, arith}
+use Rattle.std.proofs.Common.{◌≡◌, ℕ, ◌<◌, ◌≤◌, List, fold, sym, refl, ap, ◌∙◌, subst}
 use mathlib.Core.List.Memᴰ
 use Rattle.format.proofs.Finds.{In}
-use Rattle.bytecode.specs.Places.{places, next, whole}
-use Rattle.bytecode.proofs.Walks.{after, left, whole_ends, left_more, left_none}
+use Rattle.bytecode.specs.Places.{places}
+use Rattle.bytecode.proofs.Walks.{after, left, left_more, left_none}
 
 module _ (f : List ℕ) (e p : ℕ) (l : p < e) where
   pub left_here : In p (left f e p)
@@ -15,14 +15,6 @@ module _ (f : List ℕ) (e p : ℕ) (l : p < e) where
   -- what is left after a step was left before it
   pub stays_in : (k q : ℕ) → ((x : ℕ) → In x (left f e p) → In x (places f k)) → q ≡ after f e p → (x : ℕ) → In x (left f e q) → In x (places f k)
   stays_in k q h s x m = h x (left_later x (subst (λ z. In x (left f e z)) s m))
-
--- a step stays before the end
-pub after_le : (f : List ℕ) (e p : ℕ) → after f e p ≤ e
-after_le f e p = go (whole f e p) refl
-  where
-    go : (b : Bool) → whole f e p ≡ b → cond b (next f p) e ≤ e
-    go true w = (whole_ends f e p w).1
-    go false w = omega arith
 
 -- a fold of the places, as a walk goes
 module _ {B : Type 0} (f : List ℕ) (e : ℕ) (t : B → ℕ → B) (p : ℕ) (b r : B) (h : fold t b (left f e p) ≡ r) where

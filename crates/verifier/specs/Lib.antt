@@ -1,5 +1,5 @@
 pub mod Numbering
 pub mod Verdicts
 pub mod Worklist
-pub mod Ready
+pub mod Bytes
 pub mod Cases

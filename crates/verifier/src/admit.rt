@@ -1,68 +1,51 @@
 //! Admitting a file with a sheet.
-ghost use Rattle.std.specs.Prelude.{◌≡◌, ◌<◌, ◌≤◌, length, IfOk, OnOk};
+ghost use Rattle.std.specs.Prelude.{◌≡◌, ◌<◌, IfOk, OnOk};
 ghost use Rattle.std.specs.Option.{option_map};
 ghost use Rattle.std.specs.Result.{result_err};
 ghost use Rattle.refusals.specs.declared.Rule.TheVariants.{BadNumber, BadPeak};
 ghost use Rattle.format.specs.Search.{first, upto};
 ghost use Rattle.format.specs.Layout.{methods, entry};
-ghost use Rattle.format.specs.Parts.{Accepted};
 ghost use Rattle.format.specs.Rules.{refused};
 ghost use Rattle.bytecode.specs.Places.{Point, points};
+ghost use Rattle.verifier.specs.Bytes.{bytes};
 ghost use Rattle.verifier.specs.Numbering.{breaks, bad_peak, admit_refusal};
-ghost use Rattle.verifier.specs.Ready.{Ready};
 ghost use Rattle.verifier.specs.Verdicts.{AgreesWithCheck};
 
-use crate::judge::{entry_at, first_break};
+use crate::code::Code;
 use crate::method_peak::peak_of;
-use bytecode::flow::value_methods;
-use bytecode::rules::code_sound;
+use crate::sheet::entry_at;
+use bytecode::rules::every_place_keeps;
 use format::layout::{entry_place, method_count};
 use format::reader::read;
+use format::refuse::refuse_at;
 use refusals::{Refusal, Rule};
 
 /// Every place keeps the sheet's rule.
-fn every_place_keeps(file: &[u8], returns_value: &[bool; 256], sheet: &[u16]) -> Result<(), Refusal>
-    requires ready { Ready file.now returns_value.now }
-    requires long { length file.now ≤ length sheet.now }
-    ensures { result_err result ≡ refused BadNumber (option_map (λ (x : Point). x.place) (first (breaks file.now sheet.now) (points file.now))) }
+fn every_number_right(code: &Code, sheet: &[u16]) -> Result<(), Refusal>
+    ensures { result_err result ≡ refused BadNumber (option_map (λ (x : Point). x.place) (first (breaks (bytes code.now) sheet.now) (points (bytes code.now)))) }
 {
-    for k in 0..method_count(file) as usize {
-        if let Some(place) = first_break(file, returns_value, sheet, k) {
-            return Err(Refusal {
-                rule: Rule::BadNumber,
-                place,
-            });
-        }
-    }
-    Ok(())
+    every_place_keeps(code.file, Rule::BadNumber, |k, place| {
+        code.point(k, place).breaks(sheet)
+    })
 }
 
 /// Whether the sheet's entry of method `k` is not its peak.
-fn bad_peak(file: &[u8], sheet: &[u16], k: usize) -> bool
-    requires layout { Accepted file.now }
-    requires method { k < methods file.now }
-    requires long { length file.now ≤ length sheet.now }
-    ensures { result ≡ bad_peak file.now sheet.now k }
+fn bad_peak(code: &Code, sheet: &[u16], k: usize) -> bool
+    requires { k < methods (bytes code.now) }
+    ensures { result ≡ bad_peak (bytes code.now) sheet.now k }
 {
-    entry_at(sheet, entry_place(k)) != peak_of(file, sheet, k)
+    entry_at(sheet, entry_place(k)) != peak_of(code, sheet, k)
 }
 
 /// The sheet has every method's peak at its entry.
-fn every_peak_right(file: &[u8], sheet: &[u16]) -> Result<(), Refusal>
-    requires layout { Accepted file.now }
-    requires long { length file.now ≤ length sheet.now }
-    ensures { result_err result ≡ refused BadPeak (option_map entry (first (bad_peak file.now sheet.now) (upto (methods file.now)))) }
+fn every_peak_right(code: &Code, sheet: &[u16]) -> Result<(), Refusal>
+    ensures { result_err result ≡ refused BadPeak (option_map entry (first (bad_peak (bytes code.now) sheet.now) (upto (methods (bytes code.now))))) }
 {
-    for k in 0..method_count(file) as usize {
-        if bad_peak(file, sheet, k) {
-            return Err(Refusal {
-                rule: Rule::BadPeak,
-                place: entry_place(k),
-            });
-        }
-    }
-    Ok(())
+    let first = (0..method_count(code.file) as usize).find(|k| bad_peak(code, sheet, *k));
+    refuse_at(Rule::BadPeak, first.map(entry_place))
 }
+
+// No ghost field says that the pair is admitted: a start asks for that, and one that can't show it has to be turned down (docs/turned-down.md).
 
 /// A file with a sheet that it is admitted with. It is made by `admit` alone.
 #[derive(Clone, Copy)]
@@ -94,9 +77,8 @@ pub fn admit<'f, 's>(file: &'f [u8], sheet: &'s [u16]) -> Result<Admitted<'f, 's
             place: 0,
         });
     }
-    code_sound(file)?;
-    let returns_value = value_methods(file);
-    every_place_keeps(file, &returns_value, sheet)?;
-    every_peak_right(file, sheet)?;
+    let code = Code::of(file)?;
+    every_number_right(&code, sheet)?;
+    every_peak_right(&code, sheet)?;
     Ok(Admitted { file, sheet })
 }

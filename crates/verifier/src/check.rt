@@ -7,74 +7,63 @@ ghost use Rattle.format.specs.Search.{first, upto};
 ghost use Rattle.format.specs.Layout.{methods, code_address};
 ghost use Rattle.format.specs.Parts.{Accepted};
 ghost use Rattle.format.specs.Rules.{refused};
+ghost use Rattle.verifier.specs.Bytes.{bytes};
 ghost use Rattle.verifier.specs.Numbering.{numbering, unnumberable, blanks, with_peaks, tally, code_or_numbering_refusal, check_refusal, sheet_after};
-ghost use Rattle.verifier.specs.Ready.{Ready};
 ghost use Rattle.verifier.specs.Verdicts.{CheckLaws};
 ghost use Rattle.verifier.specs.Worklist.{Complete};
 
-use crate::fill::{blank_all, count_numbered, write_peaks};
+use crate::code::Code;
+use crate::fill::{count_numbered, write_peaks};
 use crate::judge::first_break;
 use crate::pending::Pending;
+use crate::sheet::BLANK;
 use crate::worklist::number_methods;
-use bytecode::flow::value_methods;
 use bytecode::places::code_range;
-use bytecode::rules::code_sound;
 use format::layout::method_count;
 use format::reader::read;
+use format::refuse::refuse_at;
 use refusals::{Refusal, Rule};
 
 /// Whether no numbering of method `k` keeps the rule, by a sheet in which nothing is left to number.
-fn unnumberable(file: &[u8], returns_value: &[bool; 256], sheet: &[u16], k: usize) -> bool
-    requires ready { Ready file.now returns_value.now }
-    requires method { k < methods file.now }
-    requires complete { Complete file.now sheet.now }
-    ensures { result ≡ unnumberable file.now k }
+fn unnumberable(code: &Code, sheet: &[u16], k: usize) -> bool
+    requires method { k < methods (bytes code.now) }
+    requires complete { Complete (bytes code.now) sheet.now }
+    ensures { result ≡ unnumberable (bytes code.now) k }
 {
-    first_break(file, returns_value, sheet, k).is_some()
+    first_break(code, sheet, k).is_some()
 }
 
 /// Every method has a numbering that keeps the rule, by a sheet in which nothing is left to number.
-fn every_method_numberable(
-    file: &[u8],
-    returns_value: &[bool; 256],
-    sheet: &[u16],
-) -> Result<(), Refusal>
-    requires ready { Ready file.now returns_value.now }
-    requires complete { Complete file.now sheet.now }
-    ensures { result_err result ≡ refused NoNumbering (option_map (code_address file.now) (first (unnumberable file.now) (upto (methods file.now)))) }
+fn every_method_numberable(code: &Code, sheet: &[u16]) -> Result<(), Refusal>
+    requires { Complete (bytes code.now) sheet.now }
+    ensures { result_err result ≡ refused NoNumbering (option_map (code_address (bytes code.now)) (first (unnumberable (bytes code.now)) (upto (methods (bytes code.now))))) }
 {
-    for k in 0..method_count(file) as usize {
-        if unnumberable(file, returns_value, sheet, k) {
-            return Err(Refusal {
-                rule: Rule::NoNumbering,
-                place: code_range(file, k).start,
-            });
-        }
-    }
-    Ok(())
+    let first = (0..method_count(code.file) as usize).find(|k| unnumberable(code, sheet, *k));
+    refuse_at(
+        Rule::NoNumbering,
+        first.map(|k| code_range(code.file, k).start),
+    )
 }
 
 /// Numbers a blank sheet of as many entries as the file has bytes, and answers its tally. If some method has no numbering, the sheet is blank again.
 fn number_sheet(
-    file: &[u8],
-    returns_value: &[bool; 256],
+    code: &Code,
     sheet: &mut [u16],
     pending: &mut [Pending],
 ) -> Result<(usize, u16), Refusal>
-    requires ready { Ready file.now returns_value.now }
-    requires blank { sheet.old ≡ blanks file.now }
-    requires room { length file.now ≤ length pending.old }
-    ensures refuses { result_err result ≡ refused NoNumbering (option_map (code_address file.now) (first (unnumberable file.now) (upto (methods file.now)))) }
-    ensures tally { IfOk result (λ t. t ≡ tally file.now) }
-    ensures sheet { MatchResult result (λ _. sheet.new ≡ with_peaks file.now (numbering file.now)) (λ _. sheet.new ≡ blanks file.now) }
+    requires blank { sheet.old ≡ blanks (bytes code.now) }
+    requires room { length (bytes code.now) ≤ length pending.old }
+    ensures refuses { result_err result ≡ refused NoNumbering (option_map (code_address (bytes code.now)) (first (unnumberable (bytes code.now)) (upto (methods (bytes code.now))))) }
+    ensures tally { IfOk result (λ t. t ≡ tally (bytes code.now)) }
+    ensures sheet { MatchResult result (λ _. sheet.new ≡ with_peaks (bytes code.now) (numbering (bytes code.now))) (λ _. sheet.new ≡ blanks (bytes code.now)) }
 {
-    number_methods(file, returns_value, sheet, pending);
-    if let Err(refusal) = every_method_numberable(file, returns_value, sheet) {
-        blank_all(sheet);
+    number_methods(code, sheet, pending);
+    if let Err(refusal) = every_method_numberable(code, sheet) {
+        sheet.fill(BLANK);
         return Err(refusal);
     }
-    let count = count_numbered(file, sheet);
-    let largest = write_peaks(file, sheet);
+    let count = count_numbered(code, sheet);
+    let largest = write_peaks(code, sheet);
     Ok((count, largest))
 }
 
@@ -91,27 +80,8 @@ fn fill_sheet(
     ensures tally { IfOk result (λ t. t ≡ tally file.now) }
     ensures sheet { MatchResult result (λ _. sheet.new ≡ with_peaks file.now (numbering file.now)) (λ _. sheet.new ≡ blanks file.now) }
 {
-    blank_all(sheet);
-    code_sound(file)?;
-    let returns_value = value_methods(file);
-    number_sheet(file, &returns_value, sheet, pending)
-}
-
-/// The work of `check`.
-fn checked(file: &[u8], sheet: &mut [u16], pending: &mut [Pending]) -> Result<(usize, u16), Refusal>
-    ensures refuses { result_err result ≡ check_refusal file.now (length sheet.old) (length pending.old) }
-    ensures tally { IfOk result (λ t. t ≡ tally file.now) }
-    ensures sheet { sheet.new ≡ sheet_after file.now sheet.old (length pending.old) }
-{
-    read(file)?;
-    let size = file.len();
-    if sheet.len() < size || pending.len() < size {
-        return Err(Refusal {
-            rule: Rule::MemoryShort,
-            place: 0,
-        });
-    }
-    fill_sheet(file, &mut sheet[0..size], pending)
+    sheet.fill(BLANK);
+    number_sheet(&Code::of(file)?, sheet, pending)
 }
 
 /// Checks a file of any length and content: numbers in the sheet the places that are reached, and answers how many they are and the largest peak;
@@ -126,5 +96,13 @@ pub fn check(
     ensures sheet { sheet.new ≡ sheet_after file.now sheet.old (length pending.old) }
     ensures laws { CheckLaws file.now sheet.old (length pending.old) (result_err result) sheet.new }
 {
-    checked(file, sheet, pending)
+    read(file)?;
+    let size = file.len();
+    if sheet.len() < size || pending.len() < size {
+        return Err(Refusal {
+            rule: Rule::MemoryShort,
+            place: 0,
+        });
+    }
+    fill_sheet(file, &mut sheet[0..size], pending)
 }

@@ -5,10 +5,13 @@ ghost use Rattle.verifier.specs.Cases.{WorkedCases};
 
 pub mod admit;
 pub mod check;
+mod code;
 mod fill;
 mod judge;
 mod method_peak;
 pub mod pending;
+mod point;
+pub mod sheet;
 mod worklist;
 
 /// Worked cases, computed.

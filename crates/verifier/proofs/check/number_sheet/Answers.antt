@@ -16,10 +16,10 @@ pair p q = cc
 
 pub returns : goal.returns
 returns c =
-    let f = c.args.file.now in
+    let f = c.args.code.now.file.now in
     let passes : ◌≡◌ {A = Option Refusal} None (refused NoNumbering (option_map (code_address f) (first (unnumberable f) (upto (methods f))))) = search rules in
     let none : first (unnumberable f) (upto (methods f)) ≡ None = mapped_none (code_address f) (first (unnumberable f) (upto (methods f))) (refused_none NoNumbering (option_map (code_address f) (first (unnumberable f) (upto (methods f)))) (sym passes)) in
-    let made : c.number_methods.new.sheet ≡ numbering f = complete_numbering f c.requires.ready.layout c.number_methods.new.sheet c.number_methods.ensures none in
+    let made : c.number_methods.new.sheet ≡ numbering f = complete_numbering f c.args.code.now.layout c.number_methods.new.sheet c.number_methods.ensures none in
     record {
       refuses = passes;
       tally = pair (c.count_numbered-count.ensures ∙ ap (λ s. count_to f s (methods f)) made) (c.write_peaks-largest.ensures.largest ∙ ap (λ s. largest_to f s (methods f)) made);

@@ -1,30 +1,21 @@
-use Rattle.std.proofs.Common.{◌+◌, ◌≤◌, Bool, true, false, cond, sym, subst, arith, rules}
-use Rattle.verifier.specs.Numbering.{number, numbered}
-use Rattle.verifier.proofs.Walking.{after_le, fold_goes_on, fold_ends}
+use Rattle.std.proofs.Common.{ℕ, ◌<◌, length, inl, arith, rules}
+use Rattle.format.specs.Layout.{methods}
+use Rattle.bytecode.specs.Places.{places}
+use Rattle.bytecode.proofs.Accepted.{code_room, file_short}
+use Rattle.verifier.specs.declared.code.Code.{Code}
+use Rattle.verifier.specs.Bytes.{bytes}
+use Rattle.verifier.proofs.Places.{places_few}
 use Rattle.verifier.proofs.fill.count_method.Goals as goal
 
-at_most_one : (b : Bool) → cond b 1 0 ≤ 1
-at_most_one true = omega arith
-at_most_one false = omega arith
+few : (c : Code) (k : ℕ) → k < methods (bytes c) → length (places (bytes c) k) < 65536
+few c k l =
+    let n = places_few (bytes c) k in
+    let r = code_room (bytes c) k c.layout l in
+    let s = file_short (bytes c) c.layout in
+    omega arith
 
-pub loop-place-preserved : goal.loop-place-preserved
-loop-place-preserved c =
-    let o = at_most_one (numbered c.entry_at.result) in
-    let r = c.one_if_numbered-count.ensures in
-    let l = c.next_place-place.ensures.later in
-    let n = c.loop-place.invariant.1 in
-    let few : c.loop-place.count + c.one_if_numbered-count.result ≤ c.next_place-place.result = omega arith in (
-      fold_goes_on c.args.file.now c.code_range-code.result.end (λ n p. n + cond (numbered (number c.args.sheet.now p)) 1 0) c.loop-place.place c.loop-place.count _ c.loop-place.invariant.0 c.next_place-place.result (c.loop-place.count + c.one_if_numbered-count.result) (search rules) (search rules) (search rules),
-      few,
-      subst (λ q. q ≤ c.code_range-code.result.end) (sym c.next_place-place.ensures.is) (after_le c.args.file.now c.code_range-code.result.end c.loop-place.place),
-    )
+pub count-requires-clause-fits : goal.count-requires-clause-fits
+count-requires-clause-fits c = inl (let l = few c.args.code.now c.args.k c.requires in search rules)
 
-pub returns : goal.returns
-returns c =
-    let e = c.code_range-code.ensures.inside in
-    let n = c.loop-place.invariant.1 in
-    let m = c.loop-place.invariant.2 in
-    record {
-      is = fold_ends c.args.file.now c.code_range-code.result.end (λ n p. n + cond (numbered (number c.args.sheet.now p)) 1 0) c.loop-place.place c.loop-place.count _ c.loop-place.invariant.0 (search rules);
-      few = omega arith;
-    }
+pub returns-clause-few : goal.returns-clause-few
+returns-clause-few c = let l = few c.args.code.now c.args.k c.requires in search rules

@@ -1,25 +1,14 @@
-use Rattle.std.proofs.Common.{rules}
-use Rattle.bytecode.proofs.Walks.{first_goes_on, first_stops, first_ends}
+use Rattle.std.proofs.Common.{sym, ◌∙◌, rules}
+use Rattle.std.proofs.lemmas.Iterator.Adapters.{option_map_id}
+use Rattle.std.proofs.lemmas.Iterator.Search.{find_from_yields_List}
+use Rattle.bytecode.proofs.Turns.{gives, at_each_place}
 use Rattle.verifier.specs.Numbering.{breaks}
-use Rattle.verifier.proofs.Walking.{left_here, stays_in}
 use Rattle.verifier.proofs.judge.first_break.Goals as goal
 
-pub breaks-requires : goal.breaks-requires
-breaks-requires c =
-    record {
-      ready = c.requires.ready;
-      at = (c.requires.method, c.loop-place.invariant.1 c.loop-place.place (left_here c.args.file.now c.code_range-code.result.end c.loop-place.place (search rules)));
-      long = c.requires.long;
-    }
-
-pub returns-then-breaks : goal.returns-then-breaks
-returns-then-breaks c = first_stops c.args.file.now c.code_range-code.result.end (λ p. breaks c.args.file.now c.args.sheet.now (record { method = c.args.k; place = p })) c.loop-place.place c.loop-place.invariant.0 (search rules) (search rules)
-
-pub loop-place-preserved : goal.loop-place-preserved
-loop-place-preserved c = (
-  first_goes_on c.args.file.now c.code_range-code.result.end (λ p. breaks c.args.file.now c.args.sheet.now (record { method = c.args.k; place = p })) c.loop-place.place c.next_place-place.result c.loop-place.invariant.0 (search rules) (search rules) (search rules),
-  stays_in c.args.file.now c.code_range-code.result.end c.loop-place.place (search rules) c.args.k c.next_place-place.result c.loop-place.invariant.1 (search rules),
-)
+pub find-requires-clause-callable : goal.find-requires-clause-callable
+find-requires-clause-callable c = at_each_place c.code_places.result c.code_places.ensures (λ p f r. search rules) (λ p m. search rules)
 
 pub returns : goal.returns
-returns c = first_ends c.args.file.now c.code_range-code.result.end (λ p. breaks c.args.file.now c.args.sheet.now (record { method = c.args.k; place = p })) c.loop-place.place c.loop-place.invariant.0 (search rules)
+returns c =
+    sym (option_map_id _) ∙
+    find_from_yields_List (λ p. breaks c.args.code.now.file.now c.args.sheet.now (record { method = c.args.k; place = p })) c.find.new.self _ _ c.find.ensures.ran (gives c.code_places.result c.code_places.ensures) (λ p b f r. search rules)

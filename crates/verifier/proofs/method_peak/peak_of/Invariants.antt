@@ -1,10 +1,7 @@
-use Rattle.std.proofs.Common.{◌≡◌, ◌-◌, max, cond, fold}
-use Rattle.bytecode.proofs.Walks.{left}
-use Rattle.verifier.specs.Numbering.{number, numbered, peak}
+use Rattle.std.proofs.Common.{◌≡◌, fold}
+use Rattle.bytecode.specs.Walk.{left}
+use Rattle.verifier.specs.Numbering.{larger, peak}
 use Rattle.verifier.proofs.method_peak.peak_of.Given as goal
 
 abbrev pub invariant-loop-place : goal.invariant-loop-place
-invariant-loop-place l = fold (λ m p. cond (numbered (number l.sheet p)) (max m (number l.sheet p)) m) l.peak (left l.file l.code.end l.place) ≡ peak l.file l.sheet l.k
-
-abbrev pub decreases-loop-place : goal.decreases-loop-place
-decreases-loop-place l = l.code.end - l.place
+invariant-loop-place l = fold (larger l.sheet) l.peak (left l.place-iterator) ≡ peak l.code.file.now l.sheet l.k

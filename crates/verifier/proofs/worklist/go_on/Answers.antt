@@ -1,4 +1,4 @@
-use Rattle.std.proofs.Common.{refl, ◌∙◌, subst, arith, rules}
+use Rattle.std.proofs.Common.{refl, ◌∙◌, subst}
 use mathlib.Core.List.Memᴰ
 use Rattle.ring.specs.Ring.{items, capacity}
 use Rattle.format.proofs.Finds.{In}
@@ -8,49 +8,32 @@ use Rattle.verifier.proofs.Gifts.{turn_stays, turn_one, turn_two, gift_room, roo
 use Rattle.verifier.proofs.worklist.go_on.Goals as goal
 
 pub returns-in_default : goal.returns-in_default
-returns-in_default c = record { work = turn_stays c.args.file.now c.args.returns_value.now c.requires.ready c.args.k c.args.waited c.requires.at (work c.args.sheet.now (items c.args.line.now)) c.in_default.ensures; same = refl }
+returns-in_default c = record { work = turn_stays c.args.point.now c.args.depth (work c.args.sheet.now (items c.args.line.now)) c.in_default.ensures; same = refl }
 
 pub successors-requires : goal.successors-requires
-successors-requires c =
-    let f = c.args.file.now in
-    let rv = c.args.returns_value.now in
-    (place_room f rv c.requires.ready c.args.k c.args.waited.place c.requires.at, place_short f rv c.requires.ready c.args.k c.args.waited.place c.requires.at)
+successors-requires c = (place_room c.args.point.now, place_short c.args.point.now)
 
-pub give-requires : goal.give-requires
-give-requires c =
-    record {
-      short = let h = c.code_range-end.ensures.inside in omega arith;
-      long = let h = c.code_range-end.ensures.inside in let l = c.requires.long in omega arith;
-      room = gift_room c.args.file.now c.args.returns_value.now c.requires.ready c.args.k c.args.waited c.requires.at c.in-Some.depth c.in-Some.ensures c.code_range-end.result.end c.code_range-end.ensures.ends (work c.args.sheet.now (items c.args.line.now)) c.in-One.next (capacity c.args.line.now) (subst (In c.in-One.next) c.in-One.ensures (Memᴰ.head refl)) c.requires.room;
-    }
+pub give-requires-clause-room : goal.give-requires-clause-room
+give-requires-clause-room c = gift_room c.args.point.now c.args.depth c.in-Some.result c.in-Some.ensures c.code_range-end.result.end c.code_range-end.ensures.ends (work c.args.sheet.now (items c.args.line.now)) c.in-One.next (capacity c.args.line.now) (subst (In c.in-One.next) c.in-One.ensures (Memᴰ.head refl)) c.requires.room
 
-pub give-requires-in-Two : goal.give-requires-in-Two
-give-requires-in-Two c =
-    record {
-      short = let h = c.code_range-end.ensures.inside in omega arith;
-      long = let h = c.code_range-end.ensures.inside in let l = c.requires.long in omega arith;
-      room = gift_room c.args.file.now c.args.returns_value.now c.requires.ready c.args.k c.args.waited c.requires.at c.in-Some.depth c.in-Some.ensures c.code_range-end.result.end c.code_range-end.ensures.ends (work c.args.sheet.now (items c.args.line.now)) c.in-Two.target (capacity c.args.line.now) (subst (In c.in-Two.target) c.in-Two.ensures (Memᴰ.head refl)) c.requires.room;
-    }
+pub give-requires-in-Two-clause-room : goal.give-requires-in-Two-clause-room
+give-requires-in-Two-clause-room c = gift_room c.args.point.now c.args.depth c.in-Some.result c.in-Some.ensures c.code_range-end.result.end c.code_range-end.ensures.ends (work c.args.sheet.now (items c.args.line.now)) c.in-Two.target (capacity c.args.line.now) (subst (In c.in-Two.target) c.in-Two.ensures (Memᴰ.head refl)) c.requires.room
 
-pub give-requires-in-Two-2 : goal.give-requires-in-Two-2
-give-requires-in-Two-2 c =
-    record {
-      short = let h = c.code_range-end.ensures.inside in omega arith;
-      long = let h = c.code_range-end.ensures.inside in let l = c.requires.long in search rules;
-      room = gift_room c.args.file.now c.args.returns_value.now c.requires.ready c.args.k c.args.waited c.requires.at c.in-Some.depth c.in-Some.ensures c.code_range-end.result.end c.code_range-end.ensures.ends (work c.give-in-Two.new.sheet (items c.give-in-Two.new.line)) c.in-Two.next (capacity c.give-in-Two.new.line) (subst (In c.in-Two.next) c.in-Two.ensures (Memᴰ.tail (Memᴰ.head refl)))
-          (room_again c.args.file.now c.args.returns_value.now c.requires.ready c.args.k c.args.waited c.requires.at c.in-Some.depth c.in-Some.ensures c.code_range-end.result.end c.code_range-end.ensures.ends (work c.args.sheet.now (items c.args.line.now)) (work c.give-in-Two.new.sheet (items c.give-in-Two.new.line)) c.in-Two.target (capacity c.args.line.now) (capacity c.give-in-Two.new.line) (subst (In c.in-Two.target) c.in-Two.ensures (Memᴰ.head refl)) c.requires.long c.requires.room c.give-in-Two.ensures.same c.give-in-Two.ensures.work);
-    }
+pub give-requires-in-Two-2-clause-room : goal.give-requires-in-Two-2-clause-room
+give-requires-in-Two-2-clause-room c =
+    gift_room c.args.point.now c.args.depth c.in-Some.result c.in-Some.ensures c.code_range-end.result.end c.code_range-end.ensures.ends (work c.give-in-Two.new.sheet (items c.give-in-Two.new.line)) c.in-Two.next (capacity c.give-in-Two.new.line) (subst (In c.in-Two.next) c.in-Two.ensures (Memᴰ.tail (Memᴰ.head refl)))
+    (room_again c.args.point.now c.args.depth c.in-Some.result c.in-Some.ensures c.code_range-end.result.end c.code_range-end.ensures.ends (work c.args.sheet.now (items c.args.line.now)) (work c.give-in-Two.new.sheet (items c.give-in-Two.new.line)) c.in-Two.target (capacity c.args.line.now) (capacity c.give-in-Two.new.line) (subst (In c.in-Two.target) c.in-Two.ensures (Memᴰ.head refl)) c.requires.long c.requires.room c.give-in-Two.ensures.same c.give-in-Two.ensures.work)
 
 pub returns-in-One : goal.returns-in-One
 returns-in-One c =
     record {
-      work = turn_one c.args.file.now c.args.returns_value.now c.requires.ready c.args.k c.args.waited c.requires.at c.in-Some.depth c.in-Some.ensures c.code_range-end.result.end c.code_range-end.ensures.ends (work c.args.sheet.now (items c.args.line.now)) _ c.in-One.next c.in-One.ensures c.give.ensures.work;
+      work = turn_one c.args.point.now c.args.depth c.in-Some.result c.in-Some.ensures c.code_range-end.result.end c.code_range-end.ensures.ends (work c.args.sheet.now (items c.args.line.now)) _ c.in-One.next c.in-One.ensures c.give.ensures.work;
       same = c.give.ensures.same;
     }
 
 pub returns-in-Two : goal.returns-in-Two
 returns-in-Two c =
     record {
-      work = turn_two c.args.file.now c.args.returns_value.now c.requires.ready c.args.k c.args.waited c.requires.at c.in-Some.depth c.in-Some.ensures c.code_range-end.result.end c.code_range-end.ensures.ends (work c.args.sheet.now (items c.args.line.now)) (work c.give-in-Two.new.sheet (items c.give-in-Two.new.line)) _ c.in-Two.target c.in-Two.next c.in-Two.ensures c.give-in-Two.ensures.work c.give-in-Two-2.ensures.work;
+      work = turn_two c.args.point.now c.args.depth c.in-Some.result c.in-Some.ensures c.code_range-end.result.end c.code_range-end.ensures.ends (work c.args.sheet.now (items c.args.line.now)) (work c.give-in-Two.new.sheet (items c.give-in-Two.new.line)) _ c.in-Two.target c.in-Two.next c.in-Two.ensures c.give-in-Two.ensures.work c.give-in-Two-2.ensures.work;
       same = c.give-in-Two-2.ensures.same ∙ c.give-in-Two.ensures.same;
     }

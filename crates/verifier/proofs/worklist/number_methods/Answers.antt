@@ -8,9 +8,9 @@ pub loop-k-init : goal.loop-k-init
 loop-k-init c =
     let r = c.requires.room in
     let e = c.new-line.ensures.capacity in
-    (subst (ClosedTo c.args.file.now 0) (sym c.requires.blank) (closed_none c.args.file.now), c.new-line.ensures.items, omega arith)
+    (subst (ClosedTo c.args.code.now.file.now 0) (sym c.requires.blank) (closed_none c.args.code.now.file.now), c.new-line.ensures.items, omega arith)
 
 pub returns : goal.returns
 returns c =
-    let e : c.loop-k.k ≡ methods c.args.file.now = search rules in
-    subst (λ n. ClosedTo c.args.file.now n c.loop-k.sheet) e c.loop-k.invariant.0
+    let e : c.loop-k.k ≡ methods c.args.code.now.file.now = search rules in
+    subst (λ n. ClosedTo c.args.code.now.file.now n c.loop-k.sheet) e c.loop-k.invariant.0

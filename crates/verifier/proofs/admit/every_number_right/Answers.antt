@@ -1,0 +1,6 @@
+use Rattle.std.proofs.Common.{rules}
+use Rattle.verifier.specs.Numbering.{breaks}
+use Rattle.verifier.proofs.admit.every_number_right.Goals as goal
+
+pub returns : goal.returns
+returns c = c.every_place_keeps.ensures (breaks c.args.code.now.file.now c.args.sheet.now) (λ k p b r. search rules)

@@ -1,9 +1,0 @@
-use Rattle.std.proofs.Common.{◌≡◌}
-use Rattle.format.specs.Search.{first}
-use Rattle.bytecode.specs.Places.{points}
-use Rattle.bytecode.proofs.Points.{points_left}
-use Rattle.verifier.specs.Numbering.{breaks}
-use Rattle.verifier.proofs.admit.every_place_keeps.Given as goal
-
-abbrev pub invariant-loop-k : goal.invariant-loop-k
-invariant-loop-k l = first (breaks l.file l.sheet) (points_left l.file l.k) ≡ first (breaks l.file l.sheet) (points l.file)

@@ -1,0 +1,6 @@
+use Rattle.verifier.specs.Bytes.{bytes}
+use Rattle.verifier.proofs.Places.{in_is_place}
+use Rattle.verifier.proofs.code.Code.point.Goals as goal
+
+pub invariant_of-result : goal.invariant_of-result
+invariant_of-result c = record { listed = c.requires.0; decoded = in_is_place (bytes c.args.self.now) c.args.method c.args.place c.requires.1 }
