@@ -18,6 +18,7 @@ pub fn push_byte(text: &mut String, byte: u8) -> Result<(), AllocError>
 pub fn push_unit(text: &mut String, unit: u16) -> Result<(), AllocError>
     ensures { OnOk result (string_bytes text.new ≡ string_bytes text.old ++ unit_digits unit) }
 {
+    // By bytes: the library has a lemma of what {:02X} writes of a byte, and none of {:04X}.
     let [high, low] = unit.to_be_bytes();
     push_byte(text, high)?;
     push_byte(text, low)
