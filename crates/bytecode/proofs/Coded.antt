@@ -1,8 +1,7 @@
 -- What each rule of the code gives of a file that keeps them all. Assumes nothing.
-use Rattle.std.proofs.Common.{◌≡◌, ℕ, zero, suc, ◌+◌, ◌<◌, ◌≤◌, Bool, true, false, cond, eqb, ltb, ◌⊎◌, List, [], ◌∷◌, length, None, refl, inl, inr, arith}
-use mathlib.Core.List.Memᴰ
+use Rattle.std.proofs.Common.{◌≡◌, ℕ, ◌+◌, ◌<◌, ◌≤◌, Bool, true, false, eqb, List, length, None, arith}
 use Rattle.std.specs.Option.{option_map}
-use Rattle.std.proofs.lemmas.Bool.{ltb-true, eqb-true}
+use Rattle.std.proofs.lemmas.Bool.{eqb-true}
 use Rattle.std.proofs.lemmas.Bool.Decides.{nat_tests}
 use Rattle.refusals.specs.declared.Rule.{Rule}
 use Rattle.refusals.specs.declared.Rule.TheVariants.{BadInstruction, BadIndex, BadTarget, MixedReturns}
@@ -11,9 +10,9 @@ use Rattle.format.specs.Search.{first, upto}
 use Rattle.format.specs.Rules.{refused}
 use Rattle.format.specs.Parts.{Accepted}
 use Rattle.format.proofs.Finds.{In, first_none, any_some, else_none, mapped_none, none_below}
-use Rattle.bytecode.specs.Places.{Point, points, places, decoded, code_end, next, whole, is_place}
+use Rattle.bytecode.specs.Places.{Point, points, places, code_end, is_place}
 use Rattle.bytecode.specs.Rules.{bad_instruction, bad_index, bad_target, mixed_returns, code_refusal}
-use Rattle.bytecode.proofs.Walks.{whole_ends}
+use Rattle.bytecode.proofs.Walks.{decoded_inside}
 use Rattle.bytecode.proofs.Accepted.{code_room}
 
 -- each rule by itself: what it asks of the whole file
@@ -47,21 +46,6 @@ pub calls_method : (f : List ℕ) (x : Point) → bad_index f x ≡ false → by
 calls_method f x h e = grind (arith, nat_tests)
 
 -- a place lies in its method's code
-decoded_inside : (f : List ℕ) (e p n q : ℕ) → In q (decoded f e p n) → (p ≤ q) × (q < e)
-unfolding decoded
-decoded_inside f e p zero q m = absurd (Memᴰ.not-nil m)
-decoded_inside f e p (suc n) q m = go (ltb p e) refl (whole f e p) refl (decoded_inside f e (next f p) n q) m
-  where
-    go : (a : Bool) → ltb p e ≡ a → (b : Bool) → whole f e p ≡ b → (In q (decoded f e (next f p) n) → (next f p ≤ q) × (q < e)) →
-        In q (cond a (p ∷ cond b (decoded f e (next f p) n) []) []) → (p ≤ q) × (q < e)
-    go false u b v ih m' = absurd (Memᴰ.not-nil m')
-    go true u b v ih m' = let l = ltb-true p e u in here b v (Memᴰ.cases_cons m')
-      where
-        here : (b : Bool) → whole f e p ≡ b → (q ≡ p) ⊎ In q (cond b (decoded f e (next f p) n) []) → (p ≤ q) × (q < e)
-        here b v (inl z) = omega (arith, ltb-true p e u)
-        here true v (inr i) = let w = whole_ends f e p v in let r = ih i in omega arith
-        here false v (inr i) = absurd (Memᴰ.not-nil i)
-
 pub place_inside : (f : List ℕ) (k p : ℕ) → is_place f k p ≡ true → (code_address f k ≤ p) × (p < code_end f k)
 place_inside f k p h =
     let s = any_some (eqb p) (places f k) h in

@@ -5,3 +5,4 @@ pub mod Accepted
 pub mod Filled
 pub mod Points
 pub mod Coded
+pub mod Turns

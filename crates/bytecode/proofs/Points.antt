@@ -10,7 +10,6 @@ abbrev pub point : ℕ → ℕ → Point
 point k p = record { method = k; place = p }
 
 first_append : {A : Type 0} (t : A → Bool) (xs ys : List A) → first t (xs ++ ys) ≡ (first t xs else first t ys)
-unfolding first
 first_append t [] ys = refl
 first_append t (x ∷ xs) ys = go (t x) (first_append t xs ys)
   where
@@ -20,7 +19,6 @@ first_append t (x ∷ xs) ys = go (t x) (first_append t xs ys)
 
 -- a search of a method's places by the place alone
 first_of : (t : Point → Bool) (k : ℕ) (xs : List ℕ) → option_map (λ (x : Point). x.place) (first t (map (point k) xs)) ≡ first (λ p. t (point k p)) xs
-unfolding first
 first_of t k [] = refl
 first_of t k (x ∷ xs) = go (t (point k x)) (first_of t k xs)
   where
@@ -34,11 +32,11 @@ abbrev pub points_left : List ℕ → ℕ → List Point
 points_left f k = points_from f (from k (methods f - k))
 
 left_more : (f : List ℕ) (k : ℕ) → k < methods f → points_left f k ≡ points_of f k ++ points_left f (k + 1)
-unfolding points_from from
+unfolding points_from
 left_more f k l = let e : methods f - k ≡ suc (methods f - (k + 1)) = omega arith in rw (e, add-one k)
 
 left_none : (f : List ℕ) (k : ℕ) → methods f ≤ k → points_left f k ≡ []
-unfolding points_from from
+unfolding points_from
 left_none f k l = let e : methods f - k ≡ 0 = omega arith in rw e
 
 -- what the search knows after each method, where it stops, and at the end

@@ -1,10 +1,11 @@
 -- A walk over the places of a method, one after another: what is left of the places, and what a search of them finds. Assumes nothing.
-use Rattle.std.proofs.Common.{◌≡◌, ℕ, zero, suc, ◌+◌, ◌-◌, ◌<◌, ◌≤◌, Bool, true, false, cond, not, ◌&&◌, eqb, ltb, leb, List, [], ◌∷◌, Some, None, Option, sym, refl, ap, ◌∙◌, arith}
+use Rattle.std.proofs.Common.{◌≡◌, ℕ, zero, suc, ◌+◌, ◌-◌, ◌<◌, ◌≤◌, Bool, true, false, cond, not, ◌&&◌, eqb, ltb, leb, ◌⊎◌, inl, inr, List, [], ◌∷◌, Some, None, Option, sym, refl, ap, ◌∙◌, arith}
+use mathlib.Core.List.Memᴰ
 use Rattle.std.proofs.lemmas.Bool.{ltb-true, ltb-false}
 use Rattle.std.proofs.lemmas.Bool.Decides.{nat_tests}
 use Rattle.format.specs.Layout.{byte, code_address, code_size}
 use Rattle.format.specs.Search.{first, any}
-use Rattle.format.proofs.Finds.{first_nil, first_cons, any_nil, any_cons}
+use Rattle.format.proofs.Finds.{In, first_nil, first_cons, any_nil, any_cons}
 use Rattle.bytecode.specs.Opcodes.{length_of}
 use Rattle.bytecode.specs.Places.{code_end, next, whole, decoded, places}
 
@@ -62,6 +63,22 @@ module _ (f : List ℕ) (e : ℕ) where
       go : (b : Bool) → whole f e p ≡ b → cond b (decoded f e (next f p) (e - p)) [] ≡ left f e (cond b (next f p) e)
       go true w = let h = whole_ends p w in decoded_enough (next f p) (e - p) (e - next f p) (omega arith) (omega arith)
       go false w = sym (left_none e (omega arith))
+
+-- a place that is decoded lies before the end, and not before the first
+pub decoded_inside : (f : List ℕ) (e p n q : ℕ) → In q (decoded f e p n) → (p ≤ q) × (q < e)
+unfolding decoded
+decoded_inside f e p zero q m = absurd (Memᴰ.not-nil m)
+decoded_inside f e p (suc n) q m = go (ltb p e) refl (whole f e p) refl (decoded_inside f e (next f p) n q) m
+  where
+    go : (a : Bool) → ltb p e ≡ a → (b : Bool) → whole f e p ≡ b → (In q (decoded f e (next f p) n) → (next f p ≤ q) × (q < e)) →
+        In q (cond a (p ∷ cond b (decoded f e (next f p) n) []) []) → (p ≤ q) × (q < e)
+    go false u b v ih m' = absurd (Memᴰ.not-nil m')
+    go true u b v ih m' = let l = ltb-true p e u in here b v (Memᴰ.cases_cons m')
+      where
+        here : (b : Bool) → whole f e p ≡ b → (q ≡ p) ⊎ In q (cond b (decoded f e (next f p) n) []) → (p ≤ q) × (q < e)
+        here b v (inl z) = omega (arith, ltb-true p e u)
+        here true v (inr i) = let w = whole_ends f e p v in let r = ih i in omega arith
+        here false v (inr i) = absurd (Memᴰ.not-nil i)
 
 -- a walk begins with all places of the method
 pub left_all : (f : List ℕ) (k : ℕ) → left f (code_end f k) (code_address f k) ≡ places f k

@@ -4,3 +4,4 @@ pub mod Places
 pub mod Rules
 pub mod PlaceRules
 pub mod Flow
+pub mod Walk

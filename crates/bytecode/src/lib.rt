@@ -10,3 +10,4 @@ mod place_rule;
 pub mod places;
 pub mod rules;
 pub mod successors;
+pub mod walk;

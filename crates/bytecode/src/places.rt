@@ -2,9 +2,11 @@
 ghost use Rattle.std.specs.Prelude.{◌≡◌, ◌+◌, ◌<◌, ◌≤◌, length, if◌then◌else◌};
 ghost use Rattle.format.specs.Layout.{methods, code_address, code_size};
 ghost use Rattle.format.specs.Parts.{Accepted};
-ghost use Rattle.bytecode.specs.Places.{code_end, whole, next, is_place, holds};
+ghost use Rattle.bytecode.specs.Places.{code_end, whole, next, places, is_place, holds};
+ghost use Rattle.bytecode.specs.Walk.{left};
 
 use crate::opcodes::length;
+use crate::walk::Places;
 use format::layout::{debug_head, method_entry};
 
 /// Where the code of a method begins and ends.
@@ -51,20 +53,25 @@ pub fn next_place(file: &[u8], place: usize, end: usize) -> usize
     place + size
 }
 
+/// The places of method `k`, one after another. Only for the crates above: the layout of the file is accepted, and it has this method.
+pub fn code_places(file: &[u8], k: usize) -> Places<'_>
+    requires { (Accepted file.now) × (k < methods file.now) }
+    ensures { left result ≡ places file.now k }
+{
+    let code = code_range(file, k);
+    Places {
+        file,
+        place: code.start,
+        end: code.end,
+    }
+}
+
 /// Whether `place` is a place of method `k`. Only for the crates above: the layout of the file is accepted, and it has this method.
 pub fn is_place(file: &[u8], k: usize, place: usize) -> bool
     requires { (Accepted file.now) × (k < methods file.now) }
     ensures { result ≡ is_place file.now k place }
 {
-    let code = code_range(file, k);
-    let mut at = code.start;
-    while at < code.end {
-        if at == place {
-            return true;
-        }
-        at = next_place(file, at, code.end);
-    }
-    false
+    code_places(file, k).any(|at| at == place)
 }
 
 /// Whether method `k` holds an instruction with this opcode.
@@ -72,13 +79,5 @@ pub(crate) fn holds(file: &[u8], k: usize, opcode: u8) -> bool
     requires { (Accepted file.now) × (k < methods file.now) }
     ensures { result ≡ holds file.now k opcode }
 {
-    let code = code_range(file, k);
-    let mut place = code.start;
-    while place < code.end {
-        if file[place] == opcode {
-            return true;
-        }
-        place = next_place(file, place, code.end);
-    }
-    false
+    code_places(file, k).any(|place| file[place] == opcode)
 }

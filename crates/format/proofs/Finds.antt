@@ -1,5 +1,5 @@
 -- What the searches of specs/Search.antt say of the things that they go over. Assumes nothing.
-use Rattle.std.proofs.Common.{◌≡◌, ℕ, zero, suc, ◌+◌, ◌<◌, ◌≤◌, Bool, true, false, cond, ◌⊎◌, List, [], ◌∷◌, is_some, Some, None, Option, sym, refl, ap, ◌∙◌, inl, inr, arith}
+use Rattle.std.proofs.Common.{◌≡◌, ℕ, zero, suc, ◌+◌, ◌<◌, ◌≤◌, Bool, true, false, cond, ◌&&◌, ◌||◌, ◌⊎◌, List, [], ◌∷◌, is_some, Some, None, Option, sym, refl, ap, ◌∙◌, inl, inr, arith}
 use mathlib.Core.List.Memᴰ
 use mathlib.Core.List.{Memᴰ}
 use Rattle.std.specs.Option.{option_map}
@@ -14,11 +14,9 @@ some_none e = let z : ◌≡◌ {A = ℕ} 0 1 = cc in omega arith
 
 module _ {A : Type 0} where
   pub first_nil : (t : A → Bool) → first t [] ≡ None
-  unfolding first
   first_nil t = refl
 
   pub first_cons : (t : A → Bool) (x : A) (xs : List A) → first t (x ∷ xs) ≡ cond (t x) (Some x) (first t xs)
-  unfolding first
   first_cons t x xs = refl
 
   pub first_none : (t : A → Bool) (xs : List A) → first t xs ≡ None → (x : A) → In x xs → t x ≡ false
@@ -50,11 +48,13 @@ module _ {A : Type 0} where
       go false b ih = ih
 
   pub any_cons : (t : A → Bool) (x : A) (xs : List A) → any t (x ∷ xs) ≡ cond (t x) true (any t xs)
-  unfolding any
-  any_cons t x xs = refl
+  any_cons t x xs = either (t x)
+    where
+      either : (b : Bool) → (b || any t xs) ≡ cond b true (any t xs)
+      either true = refl
+      either false = refl
 
   pub any_nil : (t : A → Bool) → any t [] ≡ false
-  unfolding any
   any_nil t = refl
 
   pub any_some : (t : A → Bool) (xs : List A) → any t xs ≡ true → (x : A) × In x xs × (t x ≡ true)
@@ -90,11 +90,13 @@ module _ {A : Type 0} where
       go false e = refl
 
   pub all_cons : (t : A → Bool) (x : A) (xs : List A) → all t (x ∷ xs) ≡ cond (t x) (all t xs) false
-  unfolding all
-  all_cons t x xs = refl
+  all_cons t x xs = both (t x)
+    where
+      both : (b : Bool) → (b && all t xs) ≡ cond b (all t xs) false
+      both true = refl
+      both false = refl
 
   all_nil : (t : A → Bool) → all t [] ≡ true
-  unfolding all
   all_nil t = refl
 
   pub all_true : (t : A → Bool) (xs : List A) → all t xs ≡ true → (x : A) → In x xs → t x ≡ true
@@ -118,11 +120,10 @@ module _ {A : Type 0} where
 
   -- something passes exactly where the search finds something
   pub some_first : (t : A → Bool) (xs : List A) → is_some (first t xs) ≡ any t xs
-  unfolding first any
   some_first t [] = refl
   some_first t (y ∷ ys) = go (t y) (some_first t ys)
     where
-      go : (b : Bool) → is_some (first t ys) ≡ any t ys → is_some (cond b (Some y) (first t ys)) ≡ cond b true (any t ys)
+      go : (b : Bool) → is_some (first t ys) ≡ any t ys → is_some (cond b (Some y) (first t ys)) ≡ (b || any t ys)
       go true ih = refl
       go false ih = ih
 
@@ -161,20 +162,18 @@ none_mapped g (Some x) e = absurd (some_none e)
 
 -- the numbers from i on
 pub in_from : (i n k : ℕ) → i ≤ k → k < i + n → In k (from i n)
-unfolding from
 in_from i zero k a b = absurd (omega arith)
-in_from i (suc n) k a b = go (cases_eq k i) (in_from (suc i) n k)
+in_from i (suc n) k a b = go (cases_eq k i) (in_from (i + 1) n k)
   where
-    go : (k ≡ i) ⊎ (k ≡ i → ⊥) → (suc i ≤ k → k < suc i + n → In k (from (suc i) n)) → In k (from i (suc n))
+    go : (k ≡ i) ⊎ (k ≡ i → ⊥) → (i + 1 ≤ k → k < i + 1 + n → In k (from (i + 1) n)) → In k (from i (suc n))
     go (inl e) ih = Memᴰ.head e
     go (inr ne) ih = Memᴰ.tail (ih (omega arith) (omega arith))
 
 pub from_in : (i n k : ℕ) → In k (from i n) → (i ≤ k) × (k < i + n)
-unfolding from
 from_in i zero k m = absurd (Memᴰ.not-nil m)
-from_in i (suc n) k m = go (Memᴰ.cases_cons m) (from_in (suc i) n k)
+from_in i (suc n) k m = go (Memᴰ.cases_cons m) (from_in (i + 1) n k)
   where
-    go : (k ≡ i) ⊎ In k (from (suc i) n) → (In k (from (suc i) n) → (suc i ≤ k) × (k < suc i + n)) → (i ≤ k) × (k < i + suc n)
+    go : (k ≡ i) ⊎ In k (from (i + 1) n) → (In k (from (i + 1) n) → (i + 1 ≤ k) × (k < i + 1 + n)) → (i ≤ k) × (k < i + suc n)
     go (inl e) ih = omega arith
     go (inr r) ih = let h = ih r in omega arith
 
@@ -186,12 +185,11 @@ upto_in n k m = let h = from_in 0 n k m in omega arith
 
 -- the first number that a test finds
 pub first_before : (t : ℕ → Bool) (i n k : ℕ) → first t (from i n) ≡ Some k → (j : ℕ) → i ≤ j → j < k → t j ≡ false
-unfolding from
 first_before t i zero k e j a b = absurd (some_none (sym e ∙ first_nil t))
-first_before t i (suc n) k e j a b = go (t i) refl (sym (first_cons t i (from (suc i) n)) ∙ e) (first_before t (suc i) n k)
+first_before t i (suc n) k e j a b = go (t i) refl (sym (first_cons t i (from (i + 1) n)) ∙ e) (first_before t (i + 1) n k)
   where
-    go : (c : Bool) → t i ≡ c → cond c (Some i) (first t (from (suc i) n)) ≡ Some k →
-        (first t (from (suc i) n) ≡ Some k → (j : ℕ) → suc i ≤ j → j < k → t j ≡ false) → t j ≡ false
+    go : (c : Bool) → t i ≡ c → cond c (Some i) (first t (from (i + 1) n)) ≡ Some k →
+        (first t (from (i + 1) n) ≡ Some k → (j : ℕ) → i + 1 ≤ j → j < k → t j ≡ false) → t j ≡ false
     go true c e' ih = let q : k ≡ i = cc in absurd (omega arith)
     go false c e' ih = pick (cases_eq j i)
       where

@@ -1,28 +1,25 @@
 -- Searches of a list by a test, and the first of several answers. Assumes nothing.
-use Rattle.std.specs.Prelude.{ℕ, zero, suc, Bool, true, false, cond, List, [], ◌∷◌, Some, None, Option}
+use Rattle.std.specs.Prelude.{ℕ, Bool, true, false, List, Some, None, Option}
+use Rattle.std.specs.List.{find, list_any, list_all, range_with_len}
 
--- the numbers from i on, n of them
-unfoldable pub from : ℕ → ℕ → List ℕ
-from i zero = []
-from i (suc n) = i ∷ from (suc i) n
+-- n numbers, from i on
+abbrev pub from : ℕ → ℕ → List ℕ
+from i n = range_with_len i n
 
 -- the numbers below n
 abbrev pub upto : ℕ → List ℕ
 upto n = from 0 n
 
 -- the first of the list that passes the test
-unfoldable pub first : {A : Type 0} → (A → Bool) → List A → Option A
-first t [] = None
-first t (x ∷ xs) = cond (t x) (Some x) (first t xs)
+abbrev pub first : {A : Type 0} → (A → Bool) → List A → Option A
+first t xs = find t xs
 
 -- some of the list passes the test; all of it does
-unfoldable pub any : {A : Type 0} → (A → Bool) → List A → Bool
-any t [] = false
-any t (x ∷ xs) = cond (t x) true (any t xs)
+abbrev pub any : {A : Type 0} → (A → Bool) → List A → Bool
+any t xs = list_any t xs
 
-unfoldable pub all : {A : Type 0} → (A → Bool) → List A → Bool
-all t [] = true
-all t (x ∷ xs) = cond (t x) (all t xs) false
+abbrev pub all : {A : Type 0} → (A → Bool) → List A → Bool
+all t xs = list_all t xs
 
 -- the first answer, else the second
 infixr 20 ◌else◌

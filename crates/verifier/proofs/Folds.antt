@@ -1,5 +1,5 @@
 -- What holds of a fold, folds over the numbers below another, and counts. Assumes nothing.
-use Rattle.std.proofs.Common.{◌≡◌, ℕ, zero, suc, ◌+◌, ◌<◌, ◌≤◌, Bool, true, false, cond, ◌⊎◌, List, [], ◌∷◌, ◌++◌, length, fold, count_by, sym, refl, ap, ◌∙◌, subst, inl, inr, add-zero, add-suc, suc-add, zero-add, add-one, arith}
+use Rattle.std.proofs.Common.{◌≡◌, ℕ, zero, suc, ◌+◌, ◌<◌, ◌≤◌, Bool, true, false, cond, ◌⊎◌, List, [], ◌∷◌, ◌++◌, length, fold, count_by, sym, refl, ap, ◌∙◌, subst, inl, inr, zero-add, add-one, arith}
 use mathlib.Core.List.Memᴰ
 use Rattle.std.proofs.lemmas.List.Sums.{fold_push, sum_by-cons}
 use Rattle.std.proofs.lemmas.Bool.{cond-true, cond-false}
@@ -31,16 +31,14 @@ folded_same t u b [] h = refl
 folded_same t u b (x ∷ xs) h = ap (λ c. fold t c xs) (h b x (Memᴰ.head refl)) ∙ folded_same t u (u b x) xs (λ c y i. h c y (Memᴰ.tail i))
 
 from_push : (i n : ℕ) → from i (suc n) ≡ from i n ++ ((i + n) ∷ [])
-unfolding from
-from_push i zero = ap (λ (z : ℕ). z ∷ []) (sym (add-zero i))
-from_push i (suc n) = ap (λ (xs : List ℕ). i ∷ xs) (from_push (suc i) n ∙ ap (λ (z : ℕ). from (suc i) n ++ (z ∷ [])) (suc-add i n ∙ sym (add-suc i n)))
+from_push i zero = ap (λ (z : ℕ). z ∷ []) (omega arith)
+from_push i (suc n) = ap (λ (xs : List ℕ). i ∷ xs) (from_push (i + 1) n ∙ ap (λ (z : ℕ). from (i + 1) n ++ (z ∷ [])) (omega arith))
 
 pub upto_push : (n : ℕ) → upto (n + 1) ≡ upto n ++ (n ∷ [])
 upto_push n = ap upto (add-one n) ∙ from_push 0 n ∙ ap (λ (z : ℕ). upto n ++ (z ∷ [])) (zero-add n)
 
 -- a fold over the numbers below n, as a loop goes
 pub folded_none : {B : Type 0} (t : B → ℕ → B) (b : B) → fold t b (upto 0) ≡ b
-unfolding from
 folded_none t b = refl
 
 pub folded_more : {B : Type 0} (t : B → ℕ → B) (b : B) (n : ℕ) → fold t b (upto (n + 1)) ≡ t (fold t b (upto n)) n

@@ -35,7 +35,6 @@ successor_cases f p q i = go (is (byte f p) (0xAC ∷ 0xB1 ∷ 0xF2 ∷ 0xFF ∷
 
 -- tests that agree on a list
 all_same : (t u : ℕ → Bool) (xs : List ℕ) → ((x : ℕ) → In x xs → t x ≡ u x) → all t xs ≡ all u xs
-unfolding all
 all_same t u [] h = refl
 all_same t u (x ∷ xs) h = let a = h x (Memᴰ.head refl) in let r = all_same t u xs (λ y m. h y (Memᴰ.tail m)) in rw (a, r)
 
@@ -90,31 +89,27 @@ module _ (f : List ℕ) (rv : List Bool) (g : Ready f rv) (k p : ℕ) (a : Place
     by_number xs x = ap (all found) x ∙ sym (all_same onward found (successors f p) same)
 
     pub on_none : [] ≡ successors f p → true ≡ all onward (successors f p)
-    unfolding all
     on_none x = by_number [] x
 
     pub on_one : (q : ℕ) (b : Bool) → q ∷ [] ≡ successors f p → b ≡ found q → b ≡ all onward (successors f p)
-    unfolding all
     on_one q b x u = u ∙ once (found q) ∙ by_number (q ∷ []) x
       where
-        once : (b : Bool) → b ≡ cond b true false
+        once : (b : Bool) → b ≡ (b && true)
         once true = refl
         once false = refl
 
     pub on_two : (q r : ℕ) (b c : Bool) → q ∷ r ∷ [] ≡ successors f p → b ≡ found q → c ≡ found r → b ≡ true → c ≡ all onward (successors f p)
-    unfolding all
     on_two q r b c x u v t = v ∙ twice (found q) (found r) (sym u ∙ t) ∙ by_number (q ∷ r ∷ []) x
       where
-        twice : (x y : Bool) → x ≡ true → y ≡ cond x (cond y true false) false
+        twice : (x y : Bool) → x ≡ true → y ≡ (x && (y && true))
         twice true true e = refl
         twice true false e = refl
         twice false y e = absurd (both_ways false refl e)
 
     pub on_not : (q r : ℕ) (b : Bool) → q ∷ r ∷ [] ≡ successors f p → b ≡ found q → b ≡ false → b ≡ all onward (successors f p)
-    unfolding all
     on_not q r b x u n = n ∙ never (found q) (sym u ∙ n) ∙ by_number (q ∷ r ∷ []) x
       where
-        never : (x : Bool) → x ≡ false → false ≡ cond x (cond (found r) true false) false
+        never : (x : Bool) → x ≡ false → false ≡ (x && (found r && true))
         never true e = absurd (both_ways true e refl)
         never false e = refl
 

@@ -1,7 +1,7 @@
 -- The tally and the peaks, method by method as a loop goes. Assumes nothing.
 use Rattle.std.proofs.Common.{◌≡◌, ℕ, ◌+◌, max, Bool, cond, List, [], ◌∷◌, ◌++◌, map, set, count_by, sym, refl, ap, ◌∙◌, append_assoc, append-nil, arith}
 use Rattle.std.proofs.lemmas.List.Sums.{sum_by-cons, sum_by-append}
-use Rattle.format.specs.Search.{from, upto}
+use Rattle.format.specs.Search.{upto}
 use Rattle.format.specs.Layout.{entry}
 use Rattle.bytecode.specs.Places.{Point, points_of, points_from, places}
 use Rattle.verifier.specs.Numbering.{number, numbered, peak, count_to, largest_to, peaks_to}
@@ -27,7 +27,7 @@ points_push f [] k = append-nil (points_of f k)
 points_push f (j ∷ ks) k = ap (λ xs. points_of f j ++ xs) (points_push f ks k) ∙ sym (append_assoc (points_of f j) (points_from f ks) (points_of f k))
 
 pub points_none : (f : List ℕ) → points_from f (upto 0) ≡ []
-unfolding points_from from
+unfolding points_from
 points_none f = refl
 
 pub points_more : (f : List ℕ) (n : ℕ) → points_from f (upto (n + 1)) ≡ points_from f (upto n) ++ points_of f n

@@ -1,7 +1,6 @@
 use Rattle.std.proofs.Common.{[], ◌∷◌, Some, Ok, Err, refl, ap, arith}
 use Rattle.refusals.specs.declared.Refusal.{Refusal}
 use Rattle.refusals.specs.Refusals.{number_of}
-use Rattle.format.specs.Search.{from, first, any, all}
 use Rattle.format.specs.Layout.{code_due, debug_due, message_due}
 use Rattle.bytecode.specs.Places.{decoded, points_from}
 use Rattle.verifier.specs.Numbering.{numbering}
@@ -13,5 +12,5 @@ third (Ok u) w n h = absurd (let e = h.1 in omega arith)
 third (Err e) w n h = (ap (λ (r : Refusal). Some (number_of r.rule, r.place)) h.1, h.2, h.3)
 
 pub returns : goal.returns
-unfolding from first any all code_due debug_due message_due decoded points_from numbering
+unfolding code_due debug_due message_due decoded points_from numbering
 returns c = ((refl, refl, refl, refl, refl, refl, refl, refl, refl, refl, refl, refl, refl, refl, refl, refl, refl, refl, refl, refl, refl), refl, refl, refl, refl, refl, refl, refl, refl, refl, refl, refl, refl, refl, refl, refl, refl, refl, refl, refl, refl, refl, refl, refl, refl, refl, refl, refl, refl, refl, refl, refl, refl, refl, refl, refl, refl, third)

@@ -1,13 +1,10 @@
-use Rattle.std.proofs.Common.{eqb, rules}
-use Rattle.format.specs.Layout.{byte}
-use Rattle.bytecode.proofs.Walks.{any_goes_on, any_stops, any_ends}
+use Rattle.std.proofs.Common.{rules}
+use Rattle.std.proofs.lemmas.Iterator.Search.{any_from_yields_List}
+use Rattle.bytecode.proofs.Turns.{gives, at_each_place, place_fits}
 use Rattle.bytecode.proofs.places.holds.Goals as goal
 
-pub returns-then-file-place : goal.returns-then-file-place
-returns-then-file-place c = any_stops c.args.file.now c.code_range-code.result.end (λ p. eqb (byte c.args.file.now p) c.args.opcode) c.loop-place.place c.loop-place.invariant (search rules) (search rules)
-
-pub loop-place-preserved : goal.loop-place-preserved
-loop-place-preserved c = any_goes_on c.args.file.now c.code_range-code.result.end (λ p. eqb (byte c.args.file.now p) c.args.opcode) c.loop-place.place c.next_place-place.result c.loop-place.invariant (search rules) (search rules) (search rules)
+pub any-requires-clause-callable : goal.any-requires-clause-callable
+any-requires-clause-callable c = at_each_place c.code_places.result c.code_places.ensures (λ p f r. search rules) (λ p m. search (rules, place_fits))
 
 pub returns : goal.returns
-returns c = search (rules, any_ends)
+returns c = any_from_yields_List _ c.any.new.self _ _ c.any.ensures.ran (gives c.code_places.result c.code_places.ensures) (λ p b f r. search rules)

@@ -1,12 +1,7 @@
-use Rattle.std.proofs.Common.{eqb, rules}
-use Rattle.bytecode.proofs.Walks.{any_goes_on, any_stops, any_ends}
+use Rattle.std.proofs.Common.{rules}
+use Rattle.std.proofs.lemmas.Iterator.Search.{any_from_yields_List}
+use Rattle.bytecode.proofs.Turns.{gives}
 use Rattle.bytecode.proofs.places.is_place.Goals as goal
 
-pub returns-then-at-place : goal.returns-then-at-place
-returns-then-at-place c = any_stops c.args.file.now c.code_range-code.result.end (eqb c.args.place) c.loop-at.at c.loop-at.invariant (search rules) (search rules)
-
-pub loop-at-preserved : goal.loop-at-preserved
-loop-at-preserved c = any_goes_on c.args.file.now c.code_range-code.result.end (eqb c.args.place) c.loop-at.at c.next_place-at.result c.loop-at.invariant (search rules) (search rules) (search rules)
-
 pub returns : goal.returns
-returns c = search (rules, any_ends)
+returns c = any_from_yields_List _ c.any.new.self _ _ c.any.ensures.ran (gives c.code_places.result c.code_places.ensures) (λ p b f r. search rules)
