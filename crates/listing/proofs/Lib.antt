@@ -1,3 +1,4 @@
 pub mod Texts
 pub mod Held
-pub mod Checked
+pub mod Known
+pub mod Walk

@@ -7,7 +7,7 @@ ghost use Rattle.listing.specs.Code.{number_text, decoded_text, place_line, plac
 
 use crate::program::Program;
 use bytecode::decode::instruction_at;
-use bytecode::places::{code_range, next_place};
+use bytecode::places::code_places;
 use format::layout::entry_place;
 use mnemonics::text;
 use std::alloc::{AllocError, Global};
@@ -68,12 +68,9 @@ impl Program<'_> {
         requires { k < methods self.now.file.now }
         ensures { IfOk result (λ s. string_bytes s ≡ place_lines self.now.file.now self.now.sheet.now k) }
     {
-        let code = code_range(self.file, k);
         let mut text = String::new(heap);
-        let mut place = code.start;
-        while place < code.end {
+        for place in code_places(self.file, k) {
             text.push_str(self.place_line(heap, place)?.as_str())?;
-            place = next_place(self.file, place, code.end);
         }
         Ok(text)
     }
