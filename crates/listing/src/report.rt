@@ -12,17 +12,17 @@ use std::alloc::{AllocError, Global};
 use verifier::check::check;
 use verifier::pending::Pending;
 
-/// The lines of the indices below `count`, in order: of whatever each call says, where it says the same of an index each time.
+/// The lines of the indices below `count`, in order, each as `line` makes it.
 fn lines<F: Fn(usize) -> Result<String, AllocError>>(
     heap: Global,
-    count: usize,
+    count: u8,
     line: F,
 ) -> Result<String, AllocError>
     requires { (index : ℕ) → index < count → F.pre line index }
     ensures { (each : ℕ → List ℕ) → ((index : ℕ) → index < count → (text : _) → F.post line index text → IfOk text (λ s. string_bytes s ≡ each index)) → IfOk result (λ s. string_bytes s ≡ lines each count) }
 {
     let mut text = String::new(heap);
-    for index in 0..count {
+    for index in 0..usize::from(count) {
         text.push_str(line(index)?.as_str())?;
     }
     Ok(text)
@@ -33,7 +33,7 @@ impl Program<'_> {
     fn method_lines(&self, heap: Global) -> Result<String, AllocError>
         ensures { IfOk result (λ s. string_bytes s ≡ lines (method_lines self.now.file.now self.now.sheet.now) (methods self.now.file.now)) }
     {
-        let count = self.reader.methods() as usize;
+        let count = self.reader.methods();
         lines(heap, count, |index| self.method_and_places(heap, index))
     }
 
@@ -41,7 +41,7 @@ impl Program<'_> {
     fn constant_lines(&self, heap: Global) -> Result<String, AllocError>
         ensures { IfOk result (λ s. string_bytes s ≡ lines (constant_line self.now.file.now) (constants self.now.file.now)) }
     {
-        let count = self.reader.constants() as usize;
+        let count = self.reader.constants();
         lines(heap, count, |index| self.constant_line(heap, index))
     }
 
@@ -49,7 +49,7 @@ impl Program<'_> {
     fn message_lines(&self, heap: Global) -> Result<String, AllocError>
         ensures { IfOk result (λ s. string_bytes s ≡ lines (message_line self.now.file.now) (messages self.now.file.now)) }
     {
-        let count = self.reader.messages() as usize;
+        let count = self.reader.messages();
         lines(heap, count, |index| self.message_line(heap, index))
     }
 
