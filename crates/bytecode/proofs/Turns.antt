@@ -1,5 +1,5 @@
 -- What is known of each place that a walk over a method gives. Assumes nothing.
-use Rattle.std.proofs.Common.{◌≡◌, ℕ, zero, suc, ◌+◌, ◌<◌, ◌≤◌, List, [], ◌∷◌, length, get_or, arith}
+use Rattle.std.proofs.Common.{◌≡◌, ℕ, zero, suc, ◌+◌, ◌<◌, ◌≤◌, List, [], ◌∷◌, length, get_or, fold, refl, sym, ap, ◌∙◌, subst, arith}
 use mathlib.Core.List.Memᴰ
 use Rattle.std.specs.Iterator.{YieldsFirst, CallableAtEachTurn}
 use Rattle.std.proofs.lemmas.Iterator.{YieldsList}
@@ -35,3 +35,14 @@ place_fits f k p a l m =
     let r = code_room f k a l in
     let s = file_short f a in
     omega arith
+
+-- at a turn of a loop: the place that is given is one of those that were left, and so are those that are left then
+pub given : {xs ys : List ℕ} {p : ℕ} → xs ≡ p ∷ ys → In p xs
+given e = subst (In _) (sym e) (Memᴰ.head refl)
+
+pub still : {xs ys : List ℕ} {p : ℕ} → xs ≡ p ∷ ys → (q : ℕ) → In q ys → In q xs
+still e q m = subst (In q) (sym e) (Memᴰ.tail m)
+
+-- a fold over the places that are left, as a loop goes
+pub folded : {B : Type 0} (g : B → ℕ → B) {xs ys : List ℕ} {p : ℕ} {b c r : B} → xs ≡ p ∷ ys → fold g b xs ≡ r → c ≡ g b p → fold g c ys ≡ r
+folded g {ys = ys} e h s = ap (λ z. fold g z ys) s ∙ ap (fold g _) (sym e) ∙ h

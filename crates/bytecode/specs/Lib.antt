@@ -2,6 +2,5 @@ pub mod Opcodes
 pub mod Encoding
 pub mod Places
 pub mod Rules
-pub mod PlaceRules
 pub mod Flow
 pub mod Walk

@@ -69,8 +69,5 @@ pub fn instruction_at(file: &[u8], place: usize) -> Option<Instruction>
     ensures is { result ≡ decode (drop place file.now) }
     ensures at { MatchOption result (length_of (byte file.now place) ≡ 0) (λ i. Encodes file.now place i) }
 {
-    match decode_at(file, place) {
-        Some((instruction, _)) => Some(instruction),
-        None => None,
-    }
+    decode_at(file, place).map(|(instruction, _)| instruction)
 }

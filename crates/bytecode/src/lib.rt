@@ -6,7 +6,6 @@ pub mod decode;
 pub mod flow;
 pub mod instruction;
 pub mod opcodes;
-mod place_rule;
 pub mod places;
 pub mod rules;
 pub mod successors;

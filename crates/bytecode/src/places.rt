@@ -1,5 +1,6 @@
 //! The places of a method: the addresses of its instructions, one after another from its start.
 ghost use Rattle.std.specs.Prelude.{◌≡◌, ◌+◌, ◌<◌, ◌≤◌, length, if◌then◌else◌};
+ghost use Rattle.format.specs.Search.{when};
 ghost use Rattle.format.specs.Layout.{methods, code_address, code_size};
 ghost use Rattle.format.specs.Parts.{Accepted};
 ghost use Rattle.bytecode.specs.Places.{code_end, whole, next, places, is_place, holds};
@@ -10,7 +11,7 @@ use crate::walk::Places;
 use format::layout::{debug_head, method_entry};
 
 /// Where the code of a method begins and ends.
-#[derive(Clone, Copy)]
+#[derive(Clone, Copy, PartialEq, Eq, Debug)]
 pub struct CodeRange {
     pub start: usize,
     pub end: usize,
@@ -39,6 +40,15 @@ pub fn code_range(file: &[u8], k: usize) -> CodeRange
     }
 }
 
+/// Where the instruction at `place` ends; nothing if it is unknown or ends past `end`.
+pub(crate) fn instruction_end(file: &[u8], place: usize, end: usize) -> Option<usize>
+    requires { (place < end) × ((end ≤ length file.now) × (end < 65536)) }
+    ensures { result ≡ when (whole file.now end place) (next file.now place) }
+{
+    let size = length(file[place]) as usize;
+    (size != 0 && place + size <= end).then_some(place + size)
+}
+
 /// The place after the instruction at `place`; `end`, if the instruction is unknown or ends past it. Only for the crates above: `place` is
 /// in the code that ends at `end`.
 pub fn next_place(file: &[u8], place: usize, end: usize) -> usize
@@ -46,11 +56,7 @@ pub fn next_place(file: &[u8], place: usize, end: usize) -> usize
     ensures is { result ≡ (if whole file.now end place then next file.now place else end) }
     ensures later { place < result }
 {
-    let size = length(file[place]) as usize;
-    if size == 0 || place + size > end {
-        return end;
-    }
-    place + size
+    instruction_end(file, place, end).unwrap_or(end)
 }
 
 /// The places of method `k`, one after another. Only for the crates above: the layout of the file is accepted, and it has this method.

@@ -215,3 +215,7 @@ none_below t n e k l = first_none t (upto n) e k (in_upto n k l)
 
 pub below_none : (t : ℕ → Bool) (n : ℕ) → ((k : ℕ) → k < n → t k ≡ false) → first t (upto n) ≡ None
 below_none t n h = none_first t (upto n) (λ k m. h k (upto_in n k m))
+
+-- what a search below n finds is below n
+pub first_below : (t : ℕ → Bool) (n k : ℕ) → first t (upto n) ≡ Some k → k < n
+first_below t n k e = upto_in n k (first_some t (upto n) k e).0

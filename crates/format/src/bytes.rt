@@ -6,10 +6,7 @@ ghost use Rattle.format.specs.Layout.{byte, be16, be32};
 pub(crate) fn byte_at(file: &[u8], i: usize) -> u8
     ensures { result ≡ byte file.now i }
 {
-    match file.get(i) {
-        Some(byte) => *byte,
-        None => 0,
-    }
+    file.get(i).copied().unwrap_or(0)
 }
 
 /// The number in the two bytes at `i`.

@@ -1,12 +1,12 @@
 //! What a file's tables say of its parts, and where each part is due.
-ghost use Rattle.std.specs.Prelude.{◌≡◌, ◌^◌, ◌<◌, ◌≤◌};
+ghost use Rattle.std.specs.Prelude.{◌≡◌, ◌+◌, ◌^◌, ◌<◌, ◌≤◌};
 ghost use Rattle.format.specs.Layout.{methods, constants, messages, entry, tables_end, code_due, debug_due, message_due};
 ghost use Rattle.format.specs.Tables.{entry_of, head_of};
 
 use crate::bytes::{be16_at, be32_at, byte_at};
 
 /// A method's entry in the table: the address of its code, its variables, and the address of its debug block.
-#[derive(Clone, Copy)]
+#[derive(Clone, Copy, PartialEq, Eq, Debug)]
 pub struct MethodEntry {
     pub code: u32,
     pub parameters: u8,
@@ -14,8 +14,17 @@ pub struct MethodEntry {
     pub debug: u32,
 }
 
+impl MethodEntry {
+    /// How many variables the method has.
+    pub fn variable_count(self) -> u16
+        ensures { result ≡ self.parameters + self.locals }
+    {
+        self.parameters as u16 + self.locals as u16
+    }
+}
+
 /// The head of a method's debug block: the sizes of its name and of its code.
-#[derive(Clone, Copy)]
+#[derive(Clone, Copy, PartialEq, Eq, Debug)]
 pub struct DebugHead {
     pub name_size: u8,
     pub code_size: u16,
@@ -90,6 +99,7 @@ pub(crate) fn code_due(file: &[u8], k: usize) -> usize
     ensures is { result ≡ code_due file.now k }
     ensures small { result ≤ 2 ^ 24 }
 {
+    // The turns of the loop are the steps of the definition; a sum would need its bound and those steps shown besides.
     let mut due = tables_end(file);
     for i in 0..k {
         due += debug_head(file, i).code_size as usize;
@@ -103,6 +113,7 @@ pub(crate) fn debug_due(file: &[u8], k: usize) -> usize
     ensures is { result ≡ debug_due file.now k }
     ensures small { result ≤ 2 ^ 25 }
 {
+    // As for the code.
     let mut due = code_due(file, method_count(file) as usize);
     for i in 0..k {
         due += 3 + debug_head(file, i).name_size as usize;
@@ -116,6 +127,7 @@ pub(crate) fn message_due(file: &[u8], k: usize) -> usize
     ensures is { result ≡ message_due file.now k }
     ensures small { result ≤ 2 ^ 26 }
 {
+    // Each message says where the next one is due.
     let mut due = debug_due(file, method_count(file) as usize);
     for i in 0..k {
         due += 2 + be16_at(file, due) as usize;

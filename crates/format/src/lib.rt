@@ -6,4 +6,5 @@ mod bytes;
 pub mod layout;
 pub mod part;
 pub mod reader;
+pub mod refuse;
 mod rules;

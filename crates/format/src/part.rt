@@ -9,7 +9,7 @@ use crate::layout::{
 };
 
 /// Bytes of a file, with the place where they stand in it.
-#[derive(Clone, Copy)]
+#[derive(Clone, Copy, PartialEq, Eq, Debug)]
 pub struct Part<'a> {
     pub bytes: &'a [u8],
     pub place: usize,

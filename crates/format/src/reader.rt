@@ -14,7 +14,7 @@ use crate::rules::laid_out;
 use refusals::Refusal;
 
 /// How many variables of each kind a method has.
-#[derive(Clone, Copy)]
+#[derive(Clone, Copy, PartialEq, Eq, Debug)]
 pub struct Variables {
     pub parameters: u8,
     pub locals: u8,
@@ -24,6 +24,7 @@ pub struct Variables {
 #[derive(Clone, Copy)]
 pub struct Reader<'a> {
     bytes: &'a [u8],
+    pub ghost accepted: { Accepted bytes.now },
 }
 
 /// Reads a file of any length and content: refuses it by the first rule of the layout that it breaks, and accepts it just if its layout is sound.
@@ -61,7 +62,7 @@ impl<'a> Reader<'a> {
     /// The program's name.
     pub fn program_name(&self) -> Option<Part<'a>>
         ensures is { option_map seen result ≡ program_name self.now.bytes.now }
-        ensures there { Accepted self.now.bytes.now → is_some result ≡ true }
+        ensures there { is_some result ≡ true }
     {
         part::program_name(self.bytes)
     }
@@ -69,7 +70,7 @@ impl<'a> Reader<'a> {
     /// The name of method `index`.
     pub fn method_name(&self, index: usize) -> Option<Part<'a>>
         ensures is { option_map seen result ≡ method_name self.now.bytes.now index }
-        ensures there { Accepted self.now.bytes.now → is_some result ≡ nat_lt index (methods self.now.bytes.now) }
+        ensures there { is_some result ≡ nat_lt index (methods self.now.bytes.now) }
     {
         part::method_name(self.bytes, index)
     }
@@ -77,7 +78,7 @@ impl<'a> Reader<'a> {
     /// The code of method `index`.
     pub fn method_code(&self, index: usize) -> Option<Part<'a>>
         ensures is { option_map seen result ≡ method_code self.now.bytes.now index }
-        ensures there { Accepted self.now.bytes.now → is_some result ≡ nat_lt index (methods self.now.bytes.now) }
+        ensures there { is_some result ≡ nat_lt index (methods self.now.bytes.now) }
     {
         part::method_code(self.bytes, index)
     }
@@ -99,7 +100,7 @@ impl<'a> Reader<'a> {
     /// Constant `index`, its two bytes.
     pub fn constant(&self, index: usize) -> Option<Part<'a>>
         ensures is { option_map seen result ≡ constant self.now.bytes.now index }
-        ensures there { Accepted self.now.bytes.now → is_some result ≡ nat_lt index (constants self.now.bytes.now) }
+        ensures there { is_some result ≡ nat_lt index (constants self.now.bytes.now) }
     {
         part::constant(self.bytes, index)
     }
@@ -107,7 +108,7 @@ impl<'a> Reader<'a> {
     /// Message `index`, without its two size bytes.
     pub fn message(&self, index: usize) -> Option<Part<'a>>
         ensures is { option_map seen result ≡ message self.now.bytes.now index }
-        ensures there { Accepted self.now.bytes.now → is_some result ≡ nat_lt index (messages self.now.bytes.now) }
+        ensures there { is_some result ≡ nat_lt index (messages self.now.bytes.now) }
     {
         part::message(self.bytes, index)
     }

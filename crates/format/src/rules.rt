@@ -12,16 +12,14 @@ use crate::layout::{
     code_due, debug_due, debug_head, entry_place, message_count, message_due, method_count,
     method_entry, tables_end,
 };
+use crate::refuse::refuse_at;
 use refusals::{Refusal, Rule};
 
 /// Refuses by the rule at the place, where it is broken.
 fn refuse_if(broken: bool, rule: Rule, place: usize) -> Result<(), Refusal>
     ensures { result_err result ≡ refused rule (when broken place) }
 {
-    if broken {
-        return Err(Refusal { rule, place });
-    }
-    Ok(())
+    refuse_at(rule, broken.then_some(place))
 }
 
 /// The file is at most 65,535 bytes long.
@@ -78,22 +76,16 @@ fn bad_variables(file: &[u8], k: usize) -> bool
     ensures { result ≡ bad_variables file.now k }
 {
     let entry = method_entry(file, k);
-    entry.parameters as u16 + entry.locals as u16 > 255 || k == 0 && entry.parameters != 0
+    entry.variable_count() > 255 || k == 0 && entry.parameters != 0
 }
 
 /// Each method has at most 255 variables, and main has no parameters.
 fn variables_fit(file: &[u8]) -> Result<(), Refusal>
     ensures { result_err result ≡ refused BadVariables (option_map entry (first (bad_variables file.now) (upto (methods file.now)))) }
 {
-    for k in 0..method_count(file) as usize {
-        if bad_variables(file, k) {
-            return Err(Refusal {
-                rule: Rule::BadVariables,
-                place: entry_place(k),
-            });
-        }
-    }
-    Ok(())
+    let methods = method_count(file) as usize;
+    let offender = (0..methods).find(|k| bad_variables(file, *k));
+    refuse_at(Rule::BadVariables, offender.map(entry_place))
 }
 
 /// Whether the debug head of method `k` passes the end, or its code has no bytes or is not at `due`.
@@ -111,6 +103,7 @@ fn bad_code(file: &[u8], k: usize, due: usize) -> bool
 fn code_in_order(file: &[u8]) -> Result<(), Refusal>
     ensures { result_err result ≡ refused BadCode (option_map entry (first (bad_code file.now) (upto (methods file.now)))) }
 {
+    // The address that is due runs along: a search would go over the methods before each one again.
     let mut due = tables_end(file);
     for k in 0..method_count(file) as usize {
         if bad_code(file, k, due) {
@@ -146,6 +139,7 @@ fn debug_blocks_in_order(file: &[u8]) -> Result<(), Refusal>
     ensures { result_err result ≡ refused BadDebugBlock (option_map entry (first (bad_debug_block file.now) (upto (methods file.now)))) }
 {
     let methods = method_count(file) as usize;
+    // The address that is due runs along here too.
     let mut due = code_due(file, methods);
     for k in 0..methods {
         if bad_debug_block(file, k, due) {
@@ -172,6 +166,7 @@ fn bad_message(file: &[u8], k: usize, due: usize) -> bool
 fn messages_whole(file: &[u8]) -> Result<(), Refusal>
     ensures { result_err result ≡ refused BadMessage (option_map (message_due file.now) (first (bad_message file.now) (upto (messages file.now)))) }
 {
+    // And here, where each message says where the next one is due.
     let mut due = debug_due(file, method_count(file) as usize);
     for k in 0..message_count(file) as usize {
         if bad_message(file, k, due) {

@@ -1,15 +1,24 @@
-use Rattle.std.proofs.Common.{rules}
-use Rattle.format.proofs.Loops.{firsts}
+use Rattle.std.proofs.Common.{◌≡◌, sym, ◌∙◌, rules, arith}
+use Rattle.std.proofs.lemmas.Iterator.{YieldsList-from_range}
+use Rattle.std.proofs.lemmas.Iterator.Adapters.{option_map_id}
+use Rattle.std.proofs.lemmas.Iterator.Search.{find_from_yields_List}
+use Rattle.format.specs.Search.{first, upto}
+use Rattle.format.specs.Layout.{methods}
+use Rattle.format.specs.Rules.{bad_variables}
+use Rattle.format.proofs.Finds.{first_below}
 use Rattle.format.proofs.rules.variables_fit.Goals as goal
 
-pub loop-k-init : goal.loop-k-init
-loop-k-init c = search (rules, firsts)
-
-pub returns-then-bad_variables : goal.returns-then-bad_variables
-returns-then-bad_variables c = search (rules, firsts)
-
-pub loop-k-preserved : goal.loop-k-preserved
-loop-k-preserved c = search (rules, firsts)
+pub map-requires : goal.map-requires
+map-requires c = λ k e.
+    let n = methods c.args.file.now in
+    let s : c.find-offender.result ≡ first (bad_variables c.args.file.now) (upto n) =
+    sym (option_map_id _) ∙ find_from_yields_List _ c.find-offender.new.self _ _ c.find-offender.ensures.ran (YieldsList-from_range 0 n n (search rules) (omega arith)) (λ k b f r. search rules) in
+    let b = first_below (bad_variables c.args.file.now) n k (sym s ∙ e) in
+    search rules
 
 pub returns : goal.returns
-returns c = search (rules, firsts)
+returns c =
+    let n = methods c.args.file.now in
+    let s : c.find-offender.result ≡ first (bad_variables c.args.file.now) (upto n) =
+    sym (option_map_id _) ∙ find_from_yields_List _ c.find-offender.new.self _ _ c.find-offender.ensures.ran (YieldsList-from_range 0 n n (search rules) (omega arith)) (λ k b f r. search rules) in
+    search rules

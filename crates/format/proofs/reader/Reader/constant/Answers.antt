@@ -7,5 +7,5 @@ returns c =
     let f = c.args.self.now.bytes.now in
     record {
       is = c.constant.ensures;
-      there = λ h. there seen c.constant.result (constant f c.args.index) _ c.constant.ensures (constant_there f c.args.index h);
+      there = there seen c.constant.result (constant f c.args.index) _ c.constant.ensures (constant_there f c.args.index c.args.self.now.accepted);
     }

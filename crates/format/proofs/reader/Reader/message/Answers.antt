@@ -7,5 +7,5 @@ returns c =
     let f = c.args.self.now.bytes.now in
     record {
       is = c.message.ensures;
-      there = λ h. there seen c.message.result (message f c.args.index) _ c.message.ensures (message_there f c.args.index h);
+      there = there seen c.message.result (message f c.args.index) _ c.message.ensures (message_there f c.args.index c.args.self.now.accepted);
     }

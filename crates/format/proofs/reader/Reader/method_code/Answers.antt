@@ -7,5 +7,5 @@ returns c =
     let f = c.args.self.now.bytes.now in
     record {
       is = c.method_code.ensures;
-      there = λ h. there seen c.method_code.result (method_code f c.args.index) _ c.method_code.ensures (method_code_there f c.args.index h);
+      there = there seen c.method_code.result (method_code f c.args.index) _ c.method_code.ensures (method_code_there f c.args.index c.args.self.now.accepted);
     }

@@ -7,5 +7,5 @@ returns c =
     let f = c.args.self.now.bytes.now in
     record {
       is = c.method_name.ensures;
-      there = λ h. there seen c.method_name.result (method_name f c.args.index) _ c.method_name.ensures (method_name_there f c.args.index h);
+      there = there seen c.method_name.result (method_name f c.args.index) _ c.method_name.ensures (method_name_there f c.args.index c.args.self.now.accepted);
     }

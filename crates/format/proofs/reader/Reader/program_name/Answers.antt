@@ -7,5 +7,5 @@ returns c =
     let f = c.args.self.now.bytes.now in
     record {
       is = c.program_name.ensures;
-      there = λ h. there seen c.program_name.result (program_name f) _ c.program_name.ensures (program_name_there f h);
+      there = there seen c.program_name.result (program_name f) _ c.program_name.ensures (program_name_there f c.args.self.now.accepted);
     }
