@@ -9,7 +9,7 @@ use crate::text::shown;
 use refusals::Refusal;
 use std::alloc::{AllocError, Global};
 
-// The reader answers for bytes of any content; every part of an accepted file is there, so no `else` is reached.
+// The reader's answers are Options, since an index may lie past its table. Here none does, so no `else` is reached.
 impl Program<'_> {
     /// The line of the program's name.
     pub(crate) fn program_line(&self, heap: Global) -> Result<String, AllocError>

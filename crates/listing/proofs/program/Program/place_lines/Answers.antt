@@ -1,8 +1,7 @@
 use Rattle.std.proofs.Common.{◌++◌, rules}
-use Rattle.bytecode.proofs.Turns.{place_fits}
+use Rattle.bytecode.proofs.Turns.{given, still, folded, place_fits}
 use Rattle.listing.specs.Code.{place_line}
 use Rattle.listing.proofs.Known.{known}
-use Rattle.listing.proofs.Walk.{given, still, folded}
 use Rattle.listing.proofs.program.Program.place_lines.Goals as goal
 
 pub place_line-requires-clause-inside : goal.place_line-requires-clause-inside
