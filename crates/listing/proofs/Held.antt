@@ -35,15 +35,15 @@ module _ (f : List ℕ) (i : ℕ) (p : Piece) (e : Some p ≡ method_code f i) w
       let t = code_fits f i h l in
       ap (λ (q : Piece). length q.bytes) code_is ∙ simp (length-take, length-drop) (omega arith)
 
-module _ (f : List ℕ) (i : ℕ) (h : Accepted f) where
+module _ (f g : List ℕ) (i : ℕ) (p : Piece) (h : Accepted g) (same : g ≡ f) where
   -- where a method's code stands, and how long it is
-  pub code_told : (g : List ℕ) (p : Piece) → g ≡ f → Some p ≡ method_code g i → i < methods f → (p.place ≡ code_address f i) × (length p.bytes ≡ code_size f i)
-  code_told g p same e l =
+  pub code_told : Some p ≡ method_code g i → i < methods f → (p.place ≡ code_address f i) × (length p.bytes ≡ code_size f i)
+  code_told e l =
       let e' : Some p ≡ method_code f i = subst (λ b. Some p ≡ method_code b i) same e in
-      (code_place f i p e', code_length f i p e' h l)
+      (code_place f i p e', code_length f i p e' (subst Accepted same h) l)
 
   -- the two bytes of a constant
-  pub constant_told : (g : List ℕ) (p : Piece) → g ≡ f → Some p ≡ constant g i → i < constants f → (length p.bytes ≡ 2) × (get_or p.bytes 0 0 * 256 + get_or p.bytes 1 0 ≡ be16 f (constant_address f i))
-  constant_told g p same e l =
+  pub constant_told : Some p ≡ constant g i → i < constants f → (length p.bytes ≡ 2) × (get_or p.bytes 0 0 * 256 + get_or p.bytes 1 0 ≡ be16 f (constant_address f i))
+  constant_told e l =
       let e' : Some p ≡ constant f i = subst (λ b. Some p ≡ constant b i) same e in
-      (constant_length f i p e' h l, constant_number f i p e')
+      (constant_length f i p e' (subst Accepted same h) l, constant_number f i p e')

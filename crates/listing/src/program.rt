@@ -1,7 +1,6 @@
 //! A program that the check accepts.
 ghost use Rattle.std.specs.Prelude.{◌≡◌, ◌<◌, ◌≤◌, length, None};
 ghost use Rattle.format.specs.Layout.{methods};
-ghost use Rattle.format.specs.Parts.{Accepted};
 ghost use Rattle.bytecode.specs.Rules.{code_refusal};
 
 use format::reader::Reader;
@@ -13,7 +12,6 @@ pub(crate) struct Program<'a> {
     pub(crate) reader: Reader<'a>,
     pub(crate) sheet: &'a [u16],
     ghost reads: { reader.bytes.now ≡ file.now },
-    ghost layout: { Accepted file.now },
     ghost few: { methods file.now < 256 },
     ghost code: { code_refusal file.now ≡ None },
     ghost long: { length file.now ≤ length sheet.now },

@@ -5,5 +5,6 @@ use Rattle.listing.proofs.program.Program.code_text.Goals as goal
 
 pub returns : goal.returns
 returns c =
-    let told = code_told c.args.self.now.file.now c.args.index c.args.self.now.layout c.args.self.now.reader.bytes.now (seen c.in-Some.part) c.args.self.now.reads c.in-Some.ensures.is c.requires in
+    let program = c.args.self.now in
+    let told = code_told program.file.now program.reader.bytes.now c.args.index (seen c.in-Some.part) program.reader.accepted program.reads c.in-Some.ensures.is c.requires in
     search rules

@@ -1,4 +1,5 @@
-use Rattle.std.proofs.Common.{◌++◌, rules}
+use Rattle.std.proofs.Common.{subst, ◌++◌, rules}
+use Rattle.format.specs.Parts.{Accepted}
 use Rattle.bytecode.proofs.Turns.{given, still, folded, place_fits}
 use Rattle.listing.specs.Code.{place_line}
 use Rattle.listing.proofs.Known.{known}
@@ -7,7 +8,7 @@ use Rattle.listing.proofs.program.Program.place_lines.Goals as goal
 pub place_line-requires-clause-inside : goal.place_line-requires-clause-inside
 place_line-requires-clause-inside c =
     let among = c.loop-place.invariant.1 c.in-Some.place (given c.in-Some.ensures.steps) in
-    (place_fits c.args.self.now.file.now c.args.k c.in-Some.place c.args.self.now.layout c.requires among).1
+    (place_fits c.args.self.now.file.now c.args.k c.in-Some.place (subst Accepted c.args.self.now.reads c.args.self.now.reader.accepted) c.requires among).1
 
 pub place_line-requires-clause-known : goal.place_line-requires-clause-known
 place_line-requires-clause-known c =
