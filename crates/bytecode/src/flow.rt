@@ -14,18 +14,13 @@ use crate::places::holds;
 use crate::successors::Successors;
 use format::layout::{method_count, method_entry};
 
-/// Where a jump at `place` leads by its distance; 0, which is no place, if it leads below the file. Only for the crates above: `place` is in
-/// a file whose layout is accepted.
+/// Where a jump at `place` leads by its distance; 0 if it leads below the file. That is no place of any method, as the header stands there, so
+/// an Option would only add a second way to lead to no place. Only for the crates above: `place` is in a file whose layout is accepted.
 pub fn target(place: usize, distance: u16) -> usize
     requires { place < 65536 }
     ensures { result ≡ target place distance }
 {
-    let sum = place + distance as usize;
-    if distance < 32_768 {
-        sum
-    } else {
-        sum.saturating_sub(65_536)
-    }
+    place.saturating_add_signed(distance.cast_signed() as isize)
 }
 
 /// Where control goes on from the instruction at `place`.
@@ -54,6 +49,7 @@ pub fn value_methods(file: &[u8]) -> [bool; 256]
     ensures inside { Marked file.now result }
     ensures outside { (k : ℕ) → methods file.now ≤ k → slice_index_or result k false ≡ false }
 {
+    // Only the methods that there are can be asked, so the marks past them are left, and no closure fills them all.
     let mut returns_value = [false; 256];
     for k in 0..method_count(file) as usize {
         returns_value[k] = holds(file, k, IRETURN);

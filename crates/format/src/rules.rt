@@ -40,13 +40,8 @@ fn header_whole(file: &[u8]) -> Result<(), Refusal>
 fn magic_right(file: &[u8]) -> Result<(), Refusal>
     ensures { result_err result ≡ refused WrongMagic (when (wrong_magic file.now) 0) }
 {
-    match file {
-        [0x65, 0x4A, 0x56, 0x4D, ..] => Ok(()),
-        _ => Err(Refusal {
-            rule: Rule::WrongMagic,
-            place: 0,
-        }),
-    }
+    let right = matches!(file, [0x65, 0x4A, 0x56, 0x4D, ..]);
+    refuse_if(!right, Rule::WrongMagic, 0)
 }
 
 /// The version is 1.0.
