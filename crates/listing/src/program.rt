@@ -5,7 +5,7 @@ ghost use Rattle.bytecode.specs.Rules.{code_refusal};
 
 use format::reader::Reader;
 
-/// A file that breaks no rule of the layout or the code, its reader, and a sheet that is as long at least.
+/// A file that breaks no rule of the layout or the code, its reader, and a sheet that is as long at least. The file counts its methods in a byte.
 #[derive(Drop)]
 pub(crate) struct Program<'a> {
     pub(crate) file: &'a [u8],
