@@ -1,3 +1,3 @@
 pub mod Texts
 pub mod Held
-pub mod Checked
+pub mod Known

@@ -1,34 +1,28 @@
--- The text of two bytes more, and of none; the lines of one index more. Assumes nothing.
-use Rattle.std.proofs.Common.{◌≡◌, ℕ, ◌+◌, ◌-◌, ◌*◌, ◌<◌, ◌≤◌, List, [], ◌∷◌, ◌++◌, length, get_or, take, drop, sym, refl, ap, ◌∙◌, append_assoc, append-nil, add-one, arith}
-use Rattle.std.proofs.lemmas.Slice.{between_to_end}
+-- The text of pairs of bytes, and the lines of one index more. Assumes nothing.
+use Rattle.std.proofs.Common.{◌≡◌, ℕ, suc, ◌+◌, ◌*◌, ◌/◌, ◌<◌, ◌≤◌, List, [], ◌∷◌, ◌++◌, length, get_or, take, sym, refl, ap, ◌∙◌, add-one, arith}
+use Rattle.std.specs.List.{flat_map}
+use Rattle.std.specs.Simd.{first_chunks}
+use Rattle.std.proofs.lemmas.List.{take_all, take_more, flat_map_more}
 use Rattle.listing.specs.Text.{shown_unit, shown_text}
 use Rattle.listing.specs.Lines.{lines}
 
--- the unit at the front of the bytes
-abbrev pub unit : List ℕ → ℕ
-unit bs = get_or bs 0 0 * 256 + get_or bs 1 0
+-- the text of the unit of two bytes, high byte first
+abbrev pub shown_pair : List ℕ → List ℕ
+shown_pair bs = shown_unit (get_or bs 0 0 * 256 + get_or bs 1 0)
 
-shown_front : (bs : List ℕ) → 2 ≤ length bs → shown_text bs ≡ shown_unit (unit bs) ++ shown_text (drop 2 bs)
+pub pairs_more : (pairs : List (List ℕ)) (i : ℕ) → i < length pairs → flat_map shown_pair (take i pairs) ++ shown_pair (get_or pairs i []) ≡ flat_map shown_pair (take (i + 1) pairs)
+pairs_more pairs i h = flat_map_more shown_pair [] (take i pairs) (get_or pairs i []) ∙ sym (ap (flat_map shown_pair) (take_more pairs i [] h))
+
+shown_pairs : (bs : List ℕ) → flat_map shown_pair (first_chunks 2 (length bs / 2) bs) ≡ shown_text bs
 unfolding shown_text
-shown_front [] h = absurd (omega arith)
-shown_front (x ∷ []) h = absurd (omega arith)
-shown_front (x ∷ y ∷ bs) h = refl
+shown_pairs [] = refl
+shown_pairs (x ∷ []) = refl
+shown_pairs (x ∷ y ∷ bs) =
+    let half : length (x ∷ y ∷ bs) / 2 ≡ suc (length bs / 2) = omega arith in
+    ap (λ k. flat_map shown_pair (first_chunks 2 k (x ∷ y ∷ bs))) half ∙ ap (λ r. shown_unit (x * 256 + y) ++ r) (shown_pairs bs)
 
-pub shown_none : (bs : List ℕ) → length bs < 2 → shown_text bs ≡ []
-unfolding shown_text
-shown_none [] h = refl
-shown_none (x ∷ []) h = refl
-shown_none (x ∷ y ∷ bs) h = absurd (omega arith)
-
-pub shown_more : (before after bs whole : List ℕ) → 2 ≤ length bs → after ≡ before ++ shown_unit (unit bs) → before ++ shown_text bs ≡ whole → after ++ shown_text (take (length bs - 2) (drop 2 bs)) ≡ whole
-shown_more before after bs whole h e w =
-    ap (λ r. after ++ shown_text r) (between_to_end bs 2 (length bs) (omega arith)) ∙
-    (ap (λ a. a ++ shown_text (drop 2 bs)) e ∙
-    (append_assoc before (shown_unit (unit bs)) (shown_text (drop 2 bs)) ∙
-    (sym (ap (λ r. before ++ r) (shown_front bs h)) ∙ w)))
-
-pub shown_all : (text bs whole : List ℕ) → length bs < 2 → text ++ shown_text bs ≡ whole → text ≡ whole
-shown_all text bs whole h w = sym (append-nil text) ∙ (sym (ap (λ r. text ++ r) (shown_none bs h)) ∙ w)
+pub pairs_all : (bs : List ℕ) (pairs : List (List ℕ)) (i : ℕ) → pairs ≡ first_chunks 2 (length bs / 2) bs → length pairs ≤ i → flat_map shown_pair (take i pairs) ≡ shown_text bs
+pairs_all bs pairs i e h = ap (flat_map shown_pair) (take_all i pairs h ∙ e) ∙ shown_pairs bs
 
 pub lines_none : (line : ℕ → List ℕ) → lines line 0 ≡ []
 unfolding lines

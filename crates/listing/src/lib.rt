@@ -5,5 +5,6 @@
 mod code;
 mod lines;
 mod meanings;
+mod program;
 pub mod report;
 mod text;

@@ -5,6 +5,7 @@ ghost use Rattle.listing.specs.Meanings.{meaning};
 use refusals::Rule;
 
 /// The rule's meaning in plain words.
+#[tactic(auto, unfolding(crate::specs::Meanings::meaning))]
 pub(crate) fn meaning_of(rule: Rule) -> &'static str
     ensures { result.now ≡ meaning rule }
 {

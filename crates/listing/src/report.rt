@@ -1,81 +1,71 @@
 //! The whole listing.
-ghost use Rattle.std.specs.Prelude.{◌≡◌, ◌≤◌, length, IfOk, None, string_bytes};
+ghost use Rattle.std.specs.Prelude.{◌≡◌, ◌≤◌, ◌<◌, ℕ, List, length, IfOk, None, string_bytes};
 ghost use Rattle.format.specs.Layout.{methods, constants, messages};
 ghost use Rattle.format.specs.Parts.{Accepted};
 ghost use Rattle.bytecode.specs.Rules.{code_refusal};
 ghost use Rattle.listing.specs.Lines.{lines, method_lines, constant_line, message_line, parts_text, listing};
 
-use crate::lines::{constant_line, message_line, method_and_places, program_line, refusal_text};
-use format::reader::{Reader, read};
+use crate::lines::refusal_text;
+use crate::program::Program;
+use format::reader::read;
 use std::alloc::{AllocError, Global};
 use verifier::check::check;
 use verifier::pending::Pending;
 
-/// The lines of the methods and their places. The reader is that of the file.
-fn method_lines(
+/// The lines of the indices below `count`, in order, each as `line` makes it.
+fn lines<F: Fn(usize) -> Result<String, AllocError>>(
     heap: Global,
-    file: &[u8],
-    reader: &Reader,
-    sheet: &[u16],
+    count: u8,
+    line: F,
 ) -> Result<String, AllocError>
-    requires reads { reader.now.bytes.now ≡ file.now }
-    requires layout { Accepted file.now }
-    requires code { code_refusal file.now ≡ None }
-    requires long { length file.now ≤ length sheet.now }
-    ensures { IfOk result (λ s. string_bytes s ≡ lines (method_lines file.now sheet.now) (methods file.now)) }
+    requires { (index : ℕ) → index < count → F.pre line index }
+    ensures { (each : ℕ → List ℕ) → ((index : ℕ) → index < count → (text : _) → F.post line index text → IfOk text (λ s. string_bytes s ≡ each index)) → IfOk result (λ s. string_bytes s ≡ lines each count) }
 {
     let mut text = String::new(heap);
-    for index in 0..reader.methods() as usize {
-        text.push_str(method_and_places(heap, file, reader, sheet, index)?.as_str())?;
+    for index in 0..usize::from(count) {
+        text.push_str(line(index)?.as_str())?;
     }
     Ok(text)
 }
 
-/// The lines of the constants.
-fn constant_lines(heap: Global, reader: &Reader) -> Result<String, AllocError>
-    requires { Accepted reader.now.bytes.now }
-    ensures { IfOk result (λ s. string_bytes s ≡ lines (constant_line reader.now.bytes.now) (constants reader.now.bytes.now)) }
-{
-    let mut text = String::new(heap);
-    for index in 0..reader.constants() as usize {
-        text.push_str(constant_line(heap, reader, index)?.as_str())?;
+impl Program<'_> {
+    /// The lines of the methods and their places.
+    fn method_lines(&self, heap: Global) -> Result<String, AllocError>
+        ensures { IfOk result (λ s. string_bytes s ≡ lines (method_lines self.now.file.now self.now.sheet.now) (methods self.now.file.now)) }
+    {
+        let count = self.reader.methods();
+        lines(heap, count, |index| self.method_and_places(heap, index))
     }
-    Ok(text)
-}
 
-/// The lines of the messages.
-fn message_lines(heap: Global, reader: &Reader) -> Result<String, AllocError>
-    requires { Accepted reader.now.bytes.now }
-    ensures { IfOk result (λ s. string_bytes s ≡ lines (message_line reader.now.bytes.now) (messages reader.now.bytes.now)) }
-{
-    let mut text = String::new(heap);
-    for index in 0..reader.messages() as usize {
-        text.push_str(message_line(heap, reader, index)?.as_str())?;
+    /// The lines of the constants.
+    fn constant_lines(&self, heap: Global) -> Result<String, AllocError>
+        ensures { IfOk result (λ s. string_bytes s ≡ lines (constant_line self.now.file.now) (constants self.now.file.now)) }
+    {
+        let count = self.reader.constants();
+        lines(heap, count, |index| self.constant_line(heap, index))
     }
-    Ok(text)
+
+    /// The lines of the messages.
+    fn message_lines(&self, heap: Global) -> Result<String, AllocError>
+        ensures { IfOk result (λ s. string_bytes s ≡ lines (message_line self.now.file.now) (messages self.now.file.now)) }
+    {
+        let count = self.reader.messages();
+        lines(heap, count, |index| self.message_line(heap, index))
+    }
+
+    /// The parts of the file, with the numbers and peaks of the sheet.
+    fn parts_text(&self, heap: Global) -> Result<String, AllocError>
+        ensures { IfOk result (λ s. string_bytes s ≡ parts_text self.now.file.now self.now.sheet.now) }
+    {
+        let program = self.program_line(heap)?;
+        let methods = self.method_lines(heap)?;
+        let constants = self.constant_lines(heap)?;
+        let messages = self.message_lines(heap)?;
+        format!(in heap; "{program}{methods}{constants}{messages}")
+    }
 }
 
-/// The parts of an accepted file, with the numbers and peaks of the sheet. The reader is that of the file.
-fn parts_text(
-    heap: Global,
-    file: &[u8],
-    reader: &Reader,
-    sheet: &[u16],
-) -> Result<String, AllocError>
-    requires reads { reader.now.bytes.now ≡ file.now }
-    requires layout { Accepted file.now }
-    requires code { code_refusal file.now ≡ None }
-    requires long { length file.now ≤ length sheet.now }
-    ensures { IfOk result (λ s. string_bytes s ≡ parts_text file.now sheet.now) }
-{
-    let program = program_line(heap, reader)?;
-    let methods = method_lines(heap, file, reader, sheet)?;
-    let constants = constant_lines(heap, reader)?;
-    let messages = message_lines(heap, reader)?;
-    format!(in heap; "{program}{methods}{constants}{messages}")
-}
-
-/// The parts of a file whose layout is accepted.
+/// The parts of an accepted file.
 fn accepted_text(heap: Global, file: &[u8], sheet: &[u16]) -> Result<String, AllocError>
     requires layout { Accepted file.now }
     requires code { code_refusal file.now ≡ None }
@@ -85,7 +75,12 @@ fn accepted_text(heap: Global, file: &[u8], sheet: &[u16]) -> Result<String, All
     let Ok(reader) = read(file) else {
         unreachable()
     };
-    parts_text(heap, file, &reader, sheet)
+    let program = Program {
+        file,
+        reader,
+        sheet,
+    };
+    program.parts_text(heap)
 }
 
 /// The listing by a sheet and pending memory of as many entries as the file has bytes.

@@ -1,5 +1,5 @@
 -- The text of an instruction: its name, and each argument as a decimal number after a space.
-use Rattle.std.specs.Prelude.{ℕ, List, ◌++◌, codes, decimal}
+use Rattle.std.specs.Prelude.{ℕ, List, [], ◌++◌, codes, decimal}
 use Rattle.std.specs.Int.{w16}
 use Rattle.std.proofs.Common.{to_z}
 use Rattle.std.specs.Fmt.{signed_decimal}
@@ -68,11 +68,12 @@ operands_of Halt = None
 abbrev pub signed_text : ℕ → List ℕ
 signed_text k = signed_decimal (to_z w16 k)
 
-abbrev pub operands_text : List ℕ → Operands → List ℕ
-operands_text name None = name
-operands_text name (Index i) = name ++ (codes " " ++ decimal i)
-operands_text name (Number k) = name ++ (codes " " ++ signed_text k)
-operands_text name (IndexAndNumber i k) = name ++ (codes " " ++ (decimal i ++ (codes " " ++ signed_text k)))
+-- what follows the name
+abbrev pub operands_text : Operands → List ℕ
+operands_text None = []
+operands_text (Index i) = codes " " ++ decimal i
+operands_text (Number k) = codes " " ++ signed_text k
+operands_text (IndexAndNumber i k) = codes " " ++ (decimal i ++ (codes " " ++ signed_text k))
 
 abbrev pub instruction_text : Instruction → List ℕ
-instruction_text i = operands_text (name_of i) (operands_of i)
+instruction_text i = name_of i ++ operands_text (operands_of i)

@@ -1,11 +1,12 @@
 //! Instructions as text: the name, and the arguments as decimal numbers.
 #![tactic(auto)]
 
-ghost use Rattle.std.specs.Prelude.{◌≡◌, IfOk, string_bytes};
-ghost use Rattle.mnemonics.specs.Mnemonics.{name_of, operands_of, signed_text, operands_text, instruction_text};
+ghost use Rattle.std.specs.Prelude.{◌≡◌, IfOk, Some, string_bytes};
+ghost use Rattle.mnemonics.specs.Mnemonics.{name_of, operands_of, operands_text, instruction_text};
 
 use bytecode::instruction::Instruction;
 use std::alloc::{AllocError, Global};
+use std::fmt;
 
 /// The arguments of an instruction. A number or a distance is its sixteen bits.
 #[derive(Clone, Copy)]
@@ -14,6 +15,20 @@ pub enum Operands {
     Index(u8),
     Number(u16),
     IndexAndNumber(u8, u16),
+}
+
+/// What follows the name: each argument after a space, numbers and distances as signed.
+impl fmt::Display for Operands {
+    ghost output = { λ operands. Some (operands_text operands) };
+
+    fn fmt<W: fmt::Write>(&self, f: &mut fmt::Formatter<W>) -> fmt::Result {
+        match *self {
+            Operands::None => Ok(()),
+            Operands::Index(index) => write!(f, " {index}"),
+            Operands::Number(bits) => write!(f, " {}", bits.cast_signed()),
+            Operands::IndexAndNumber(index, bits) => write!(f, " {index} {}", bits.cast_signed()),
+        }
+    }
 }
 
 /// The instruction's name.
@@ -84,35 +99,11 @@ pub fn operands_of(instruction: Instruction) -> Operands
     }
 }
 
-/// A number of sixteen bits, as signed.
-fn signed_text(heap: Global, bits: u16) -> Result<String, AllocError>
-    ensures { IfOk result (λ s. string_bytes s ≡ signed_text bits) }
-{
-    let number = bits.cast_signed();
-    format!(in heap; "{number}")
-}
-
-/// The name with the arguments after it, numbers and distances as signed.
-fn joined(heap: Global, name: &str, operands: Operands) -> Result<String, AllocError>
-    ensures { IfOk result (λ s. string_bytes s ≡ operands_text name.now operands) }
-{
-    match operands {
-        Operands::None => format!(in heap; "{name}"),
-        Operands::Index(index) => format!(in heap; "{name} {index}"),
-        Operands::Number(bits) => {
-            let number = signed_text(heap, bits)?;
-            format!(in heap; "{name} {number}")
-        }
-        Operands::IndexAndNumber(index, bits) => {
-            let number = signed_text(heap, bits)?;
-            format!(in heap; "{name} {index} {number}")
-        }
-    }
-}
-
 /// The instruction as text.
 pub fn text(heap: Global, instruction: Instruction) -> Result<String, AllocError>
     ensures { IfOk result (λ s. string_bytes s ≡ instruction_text instruction) }
 {
-    joined(heap, name_of(instruction), operands_of(instruction))
+    let name = name_of(instruction);
+    let operands = operands_of(instruction);
+    format!(in heap; "{name}{operands}")
 }
