@@ -4,6 +4,7 @@
 ghost use Rattle.std.specs.Prelude.{◌≤◌};
 
 mod decimal;
+pub mod mode;
 pub mod modes;
 pub mod put;
 

@@ -6,6 +6,7 @@
 mod tests {
     use host::label::Label;
     use host::{Host, NO_ROOM};
+    use output::mode::Mode;
     use output::modes::text;
     use std::process::Abort;
 
@@ -35,6 +36,15 @@ mod tests {
         writes(&rt, 10, b"10", b"1");
         writes(&rt, 3505, b"3505", b"350");
         writes(&rt, 32767, b"32767", b"3276");
+    }
+
+    #[test]
+    fn modes_have_the_numbers_0_to_2(rt: HostRuntime) {
+        assert_eq!(rt; Mode::from(0), Mode::Pattern);
+        assert_eq!(rt; Mode::from(1), Mode::Decimal);
+        assert_eq!(rt; Mode::from(2), Mode::Tenth);
+        assert_eq!(rt; Mode::from(255), Mode::Tenth);
+        assert!(rt; Mode::from(1).text(32769).units() == [45, 51, 50, 55, 54, 55].as_slice());
     }
 
     #[test]

@@ -1,6 +1,7 @@
 -- Values from a slot on: how many they are, with one more at the end, with the first one off.
-use Rattle.std.proofs.Common.{◌≡◌, ℕ, zero, suc, ◌+◌, ◌-◌, ◌<◌, ◌≤◌, min, List, [], ◌∷◌, ◌++◌, length, get_or, take, drop, set, sym, ap, ◌∙◌, arith, length-append, length-drop, length-take}
-use Rattle.std.proofs.lemmas.List.{length-take-le, length-set, take-take, take_all, take-append-le, take_more_set, drop_all, drop_more, drop-set-add, drop-set-lt, set-append_right}
+use Rattle.std.proofs.Common.{◌≡◌, ℕ, zero, suc, ◌+◌, ◌-◌, ◌<◌, ◌≤◌, min, List, [], ◌∷◌, ◌++◌, length, get_or, take, drop, set, sym, ap, ◌∙◌, inl, inr, arith, length-append, length-drop, length-take}
+use Rattle.std.proofs.lemmas.List.{length-take-le, length-set, take-take, take-append-le, take_more_set, drop_all, drop_more, drop-set-add, drop-set-lt, set-append_right}
+use Rattle.std.proofs.lemmas.Bool.{cases_lt}
 use Rattle.ring.specs.Ring.{turned, from_slot}
 
 module _ {T : Type 0} (slots : List T) (first : ℕ) where
@@ -15,14 +16,6 @@ module _ {T : Type 0} (slots : List T) (first : ℕ) where
   unrolled : (count : ℕ) → count ≤ length slots → from_slot slots first count ≡ take count (drop first slots ++ slots)
   unfolding turned
   unrolled count le = take-take count (length slots) (drop first slots ++ slots) le
-
--- a count over the number of slots stands for that number
-pub from_slot_all : {T : Type 0} (slots : List T) (first count n : ℕ) → length slots ≤ count → n ≡ length slots →
-    from_slot slots first count ≡ from_slot slots first n
-from_slot_all slots first count n le e =
-    let all : length (turned slots first) ≤ count = rw (length-turned slots first) le in
-    let all' : length (turned slots first) ≤ n = rw (length-turned slots first) (omega arith) in
-    take_all count (turned slots first) all ∙ sym (take_all n (turned slots first) all')
 
 -- a slot past the last stands for the first
 pub from_slot_round : {T : Type 0} (slots : List T) (first count : ℕ) → length slots ≤ first →
@@ -41,22 +34,33 @@ module _ {T : Type 0} (slots : List T) (first count free : ℕ) (value : T) (roo
   le' = simp length-set (omega arith)
 
   -- before the last slot
-  pub push_ahead : first + count < length slots → free ≡ first + count →
+  ahead : first + count < length slots → free ≡ first + count →
       from_slot (set slots free value) first (count + 1) ≡ from_slot slots first count ++ value ∷ []
-  push_ahead inside e =
-      let ahead = drop first slots in
-      let short : count < length ahead = simp length-drop (omega arith) in
-      let fits : count ≤ length ahead = omega arith in
-      let fits' : count + 1 ≤ length (set ahead count value) = simp length-set (omega arith) in
-      rw (unrolled (set slots free value) first (count + 1) le', unrolled slots first count le, e, drop-set-add first slots count value, take-append-le (count + 1) (set ahead count value) (set slots (first + count) value), take_more_set ahead count value, take-append-le count ahead slots)
+  ahead inside e =
+      let front = drop first slots in
+      let short : count < length front = simp length-drop (omega arith) in
+      let fits : count ≤ length front = omega arith in
+      let fits' : count + 1 ≤ length (set front count value) = simp length-set (omega arith) in
+      rw (unrolled (set slots free value) first (count + 1) le', unrolled slots first count le, e, drop-set-add first slots count value, take-append-le (count + 1) (set front count value) (set slots (first + count) value), take_more_set front count value, take-append-le count front slots)
 
   -- from the first slot again
-  pub push_round : length slots - first ≤ count → free ≡ count - (length slots - first) →
+  round : first < length slots → length slots ≤ first + count → free ≡ first + count - length slots →
       from_slot (set slots free value) first (count + 1) ≡ from_slot slots first count ++ value ∷ []
-  push_round past e =
+  round inside past e =
       let before : free < first = omega arith in
+      let front : length slots - first ≤ count = omega arith in
+      let e' : free ≡ count - (length slots - first) = omega arith in
       let short : count < length (drop first slots ++ slots) = simp (length-append, length-drop) (omega arith) in
-      rw (unrolled (set slots free value) first (count + 1) le', unrolled slots first count le, drop-set-lt first slots free value, e, ← set-append_right (drop first slots) slots (length slots - first) count value (length-drop first slots) past, take_more_set (drop first slots ++ slots) count value)
+      rw (unrolled (set slots free value) first (count + 1) le', unrolled slots first count le, drop-set-lt first slots free value, e', ← set-append_right (drop first slots) slots (length slots - first) count value (length-drop first slots) front, take_more_set (drop first slots ++ slots) count value)
+
+  pub one_more : first < length slots →
+      (first + count < length slots → free ≡ first + count) → (length slots ≤ first + count → free ≡ first + count - length slots) →
+      from_slot (set slots free value) first (count + 1) ≡ from_slot slots first count ++ value ∷ []
+  one_more inside step back =
+      elim (cases_lt (first + count) (length slots)) [
+        | inl before ↦ ahead before (step before)
+        | inr past ↦ round inside past (back past)
+      ]
 
 -- the first one off, where there is one
 pub first_off : {T : Type 0} (slots : List T) (first count : ℕ) (d : T) → first < length slots → 0 < count → count ≤ length slots →
@@ -68,7 +72,20 @@ first_off slots first count d inside some fits =
     off zero pos = absurd (omega arith)
     off (suc n) pos = let e : suc n - 1 ≡ n = omega arith in rw (drop_more slots first d, e)
 
-pub rest_left : {T : Type 0} (slots : List T) (first count : ℕ) → first < length slots → 0 < count → count ≤ length slots →
-    from_slot slots (first + 1) (count - 1) ≡ drop 1 (from_slot slots first count)
-rest_left [] first count inside some fits = absurd (omega arith)
-rest_left (x ∷ xs) first count inside some fits = sym (ap (drop 1) (first_off (x ∷ xs) first count x inside some fits))
+pub rest_left : {T : Type 0} (slots : List T) (first count next : ℕ) → first < length slots → 0 < count → count ≤ length slots →
+    (first + 1 < length slots → next ≡ first + 1) → (length slots ≤ first + 1 → next ≡ first + 1 - length slots) →
+    from_slot slots next (count - 1) ≡ drop 1 (from_slot slots first count)
+rest_left [] first count next inside some fits step back = absurd (omega arith)
+rest_left (x ∷ xs) first count next inside some fits step back =
+    elim (cases_lt (first + 1) (length (x ∷ xs))) [
+      | inl before ↦ rw (step before) rest
+      | inr past ↦
+          let e : next ≡ 0 = back past ∙ omega arith in
+          rw (e, ← from_slot_round (x ∷ xs) (first + 1) (count - 1) past) rest
+    ]
+  where
+    rest : from_slot (x ∷ xs) (first + 1) (count - 1) ≡ drop 1 (from_slot (x ∷ xs) first count)
+    rest = sym (ap (drop 1) (first_off (x ∷ xs) first count x inside some fits))
+
+-- what the calls of a ring need
+pub ruleset laws = (length-set, length-from_slot, one_more, first_off, rest_left)

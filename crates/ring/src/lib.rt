@@ -1,29 +1,24 @@
 //! A ring buffer: a first-in-first-out line over lent memory.
 #![tactic(auto)]
 
-ghost use Rattle.std.specs.Prelude.{◌≡◌, ◌-◌, ◌<◌, ◌≤◌, [], ◌∷◌, ◌++◌, length, drop, ◌==◌};
-ghost use Rattle.ring.specs.Ring.{items, capacity, Pushed, Popped, from_slot};
+ghost use Rattle.std.specs.Prelude.{◌≡◌, ◌+◌, ◌-◌, ◌<◌, ◌≤◌, [], ◌∷◌, ◌++◌, length, drop, ◌==◌};
 
 /// A first-in-first-out line of values in lent slots, as many as there are slots.
 ///
 /// The values stand from the slot at `head` on, and past the last slot from the first again.
-/// A `head` past the last slot stands for the first, and a `count` over the number of slots for that number,
-/// so that any three fields are a line. What a free slot holds is not told.
+/// What a free slot holds is not told.
 #[derive(Drop)]
 pub struct Ring<'a, T> {
     slots: &'a mut [T],
     head: usize,
     count: usize,
+    ghost within: { (head ≤ length slots.now - 1) × (count ≤ length slots.now) },
 }
 
-/// Where the first value of a line stands, and how many values wait.
-#[derive(Clone, Copy)]
-struct Span {
-    first: usize,
-    count: usize,
-}
-
+#[tactic(auto, using(crate::proofs::Laws::laws))]
 impl<'a, T: Copy> Ring<'a, T> {
+    ghost use Rattle.ring.specs.Ring.{items, capacity, Pushed, Popped};
+
     /// An empty line in these slots.
     pub fn new(slots: &'a mut [T]) -> Ring<'a, T>
         ensures items { items result ≡ [] }
@@ -41,7 +36,7 @@ impl<'a, T: Copy> Ring<'a, T> {
         ensures count { result ≡ length (items self.now) }
         ensures fits { result ≤ capacity self.now }
     {
-        self.span().count
+        self.count
     }
 
     /// Whether no value waits.
@@ -73,29 +68,14 @@ impl<'a, T: Copy> Ring<'a, T> {
         Some(value)
     }
 
-    /// The line with its fields cut to the number of slots.
-    fn span(&self) -> Span
-        ensures count { result.count ≡ length (items self.now) }
-        ensures fits { result.count ≤ capacity self.now }
-        ensures inside { result.first ≤ capacity self.now - 1 }
-        ensures same { items self.now ≡ from_slot self.now.slots.now result.first result.count }
-    {
-        let slots = self.slots.len();
-        Span {
-            first: if self.head < slots { self.head } else { 0 },
-            count: self.count.min(slots),
-        }
-    }
-
     /// The first value, if one waits.
     fn front(&self) -> Option<T>
         ensures { Popped (items self.now) result (drop 1 (items self.now)) }
     {
-        let span = self.span();
-        if span.count == 0 {
+        if self.is_empty() {
             return None;
         }
-        self.slots.get(span.first).copied()
+        Some(self.slots[self.head])
     }
 
     /// Frees the slot of the first value.
@@ -104,9 +84,8 @@ impl<'a, T: Copy> Ring<'a, T> {
         ensures items { items self.new ≡ drop 1 (items self.old) }
         ensures capacity { capacity self.new ≡ capacity self.old }
     {
-        let span = self.span();
-        self.head = span.first + 1;
-        self.count = span.count - 1;
+        self.head = self.slot(1);
+        self.count -= 1;
     }
 
     /// Writes a value into the slot after the last value.
@@ -115,15 +94,22 @@ impl<'a, T: Copy> Ring<'a, T> {
         ensures items { items self.new ≡ items self.old ++ value ∷ [] }
         ensures capacity { capacity self.new ≡ capacity self.old }
     {
-        let span = self.span();
-        let ahead = self.slots.len() - span.first;
-        let free = if span.count < ahead {
-            span.first + span.count
-        } else {
-            span.count - ahead
-        };
+        let count = self.count;
+        let free = self.slot(count);
         self.slots[free] = value;
-        self.head = span.first;
-        self.count = span.count + 1;
+        self.count += 1;
+    }
+
+    /// The slot that many after the one at `head`, past the last slot from the first again.
+    fn slot(&self, after: usize) -> usize
+        ensures before { self.now.head + after < capacity self.now → result ≡ self.now.head + after }
+        ensures past { capacity self.now ≤ self.now.head + after → result ≡ self.now.head + after - capacity self.now }
+    {
+        let left = self.slots.len() - self.head;
+        if after < left {
+            self.head + after
+        } else {
+            after - left
+        }
     }
 }
