@@ -17,17 +17,17 @@ impl<'f, 'p, 's> Interpreter<'f, 'p, 's> {
         ensures still { result.1 ≡ 0 → self.new ≡ self.old }
         ensures goes { outcome_begun (program self.old) (numbers self.old) (cells self.old) fuel (state_of self.old) (host_of (H.waiting host.old) (H.written host.old) (H.space host.old)) ≡ record { run = Some (state_of self.new); host = host_of (H.waiting host.new) (H.written host.new) (H.space host.new); stop = result.0; counted = result.1 } }
     {
+        if let Some(end) = self.ended {
+            return (Stop::Ended(end), 0);
+        }
         for count in 0..fuel {
-            if let Some(end) = self.ended {
-                return (Stop::Ended(end), count);
-            }
             if let Some(stop) = self.step(host) {
                 return (stop, count);
             }
+            if let Some(end) = self.ended {
+                return (Stop::Ended(end), count + 1);
+            }
         }
-        match self.ended {
-            Some(end) => (Stop::Ended(end), fuel),
-            None => (Stop::Spent, fuel),
-        }
+        (Stop::Spent, fuel)
     }
 }

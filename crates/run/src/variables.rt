@@ -8,7 +8,7 @@ ghost use Rattle.run.specs.Done.{Done};
 use crate::interpreter::Interpreter;
 use format::layout::method_count;
 
-/// A constant of the program, from its two bytes.
+/// A constant of the program, from its two bytes. The reader's own way to a constant tests the index once more.
 fn constant(file: &[u8], index: u8) -> u16
     requires { constant_address file.now index + 2 ≤ length file.now }
     ensures { result ≡ be16 file.now (constant_address file.now index) }
