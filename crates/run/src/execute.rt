@@ -7,7 +7,8 @@ ghost use Rattle.run.specs.Done.{is_free, Done};
 use crate::interpreter::Interpreter;
 
 impl<'f, 'p, 's> Interpreter<'f, 'p, 's> {
-    /// Does the next instruction, one that nothing hinders.
+    /// Does the next instruction, one that nothing hinders. It is told by its byte, since going over the decoded instruction takes
+    /// more than twice as long (docs/DECISIONS.md).
     pub(crate) fn execute(&mut self, opcode: u8)
         requires here { opcode ≡ byte (program self.old) self.old.place }
         requires free { is_free opcode ≡ true }
