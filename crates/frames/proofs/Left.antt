@@ -1,7 +1,7 @@
 -- The frames after the running one is taken off. Assumes nothing.
 use Rattle.std.proofs.Common.{◌≡◌, ℕ, zero, suc, ◌+◌, ◌-◌, ◌<◌, ◌≤◌, true, List, ◌∷◌, length, get_or, take, sym, ap, ◌∙◌, sub-one, arith}
 use Rattle.std.proofs.lemmas.List.{length-take-le}
-use Rattle.frames.specs.Frames.{variables_of, frame_at, frames_at, laid}
+use Rattle.frames.specs.Laid.{variables_of, frame_at, frames_at, laid}
 use Rattle.frames.proofs.Stack.{nearest_whole, rest_laid}
 use Rattle.frames.proofs.Parts.{method_below, frames_below, laid_below}
 

@@ -1,121 +1,60 @@
 -- The cells of a new frame, as they are laid, and the frames with it. Assumes nothing.
-use Rattle.std.proofs.Common.{◌≡◌, ℕ, zero, suc, ◌+◌, ◌-◌, ◌<◌, ◌≤◌, true, List, [], ◌∷◌, ◌++◌, reverse, length, get_or, take, drop, set, replicate, sym, refl, ap, ◌∙◌, add-one, arith}
-use lib.Seq.{paste, take-set-lt}
-use Rattle.std.proofs.lemmas.List.{append_assoc, reverse-append, reverse-reverse, length-append, length-drop, length-replicate, length-reverse, length-take-le, take-append-drop, take-append-le, take_all, take_at, take_more, take-take, drop_all, drop_at, drop-drop, drop_more, drop-take, get_or_append_left, get_or-append_right, get_or_at, get_or-take, set-append_right, set_at}
-use Rattle.std.proofs.lemmas.List.Edits.{length-paste, paste_none, take-paste}
+use Rattle.std.proofs.Common.{◌≡◌, ℕ, zero, suc, ◌+◌, ◌-◌, ◌≤◌, true, List, [], ◌∷◌, ◌++◌, reverse, length, get_or, take, drop, replicate, sym, refl, ap, ◌∙◌, add-one, arith}
+use borrow.Rule.Slice.PartMut.{put_mid}
+use lib.Seq.{paste, take-add}
+use Rattle.std.proofs.lemmas.Slice.{take-put_mid, drop-put_mid}
+use Rattle.std.proofs.lemmas.List.{append_assoc, reverse-append, reverse-reverse, length-append, length-drop, length-replicate, length-reverse, length-take, length-take-le, take-append-drop, take-append-le, take_all, take_at, take-take, drop_all, drop_at, drop-drop, drop-take, get_or-append_right, get_or_at, get_or-take}
+use Rattle.std.proofs.lemmas.List.Edits.{length-paste, take-paste}
 use Rattle.std.proofs.lemmas.Bool.{eq-eqb}
 use Rattle.format.specs.Layout.{parameters, locals}
 use Rattle.machine.specs.Machine.{with_operands}
-use Rattle.frames.specs.Frames.{variables_of, variables_are, frame_at, frames_at, laid, called}
-use Rattle.frames.proofs.Stack.{laid_more, head_cells}
+use Rattle.frames.specs.Frames.{called}
+use Rattle.frames.specs.Laid.{variables_of, variables_are, frame_at, frames_at, laid}
+use Rattle.frames.proofs.Stack.{laid_more}
 use Rattle.frames.proofs.Parts.{method_below, frames_below, laid_below, whole_below}
 
 -- a cell of a list's second part
-set_in : (xs ys : List ℕ) (b i v : ℕ) → length xs ≡ b → set (xs ++ ys) (b + i) v ≡ xs ++ set ys i v
-set_in xs ys b i v e =
-    let j : b + i - b ≡ i = omega arith in
-    set-append_right xs ys b (b + i) v e (omega arith) ∙ ap (λ k. xs ++ set ys k v) j
-
 get_or_in : (xs ys : List ℕ) (b i : ℕ) → length xs ≡ b → get_or (xs ++ ys) (b + i) 0 ≡ get_or ys i 0
 get_or_in xs ys b i e =
     let j : b + i - b ≡ i = omega arith in
     get_or-append_right xs ys b (b + i) 0 e (omega arith) ∙ ap (λ k. get_or ys k 0) j
 
--- one cell more has moved up
-module _ (d : List ℕ) (f i m : ℕ) (room : f + 3 + i + 1 + m ≤ length d) where
-  parted : paste d (f + 3 + i + 1) (drop (f + i + 1) d) m ≡ take (f + 3 + i) d ++ (get_or d (f + 3 + i) 0 ∷ (take m (drop (f + i + 1) d) ++ drop (f + 3 + i + 1 + m) d))
-  parted =
-      let x = get_or d (f + 3 + i) 0 in
-      let moved = take m (drop (f + i + 1) d) in
-      let rest = drop (f + 3 + i + 1 + m) d in
-      ap (λ t. t ++ moved ++ rest) (take_more d (f + 3 + i) 0 (omega arith))
-      ∙ append_assoc (take (f + 3 + i) d ++ x ∷ []) moved rest
-      ∙ append_assoc (take (f + 3 + i) d) (x ∷ []) (moved ++ rest)
-
-  not_yet : get_or (paste d (f + 3 + i + 1) (drop (f + i + 1) d) m) (f + i) 0 ≡ get_or d (f + i) 0
-  not_yet =
-      let l = length-take-le (f + 3 + i) d (omega arith) in
-      ap (λ q. get_or q (f + i) 0) parted
-      ∙ get_or_append_left (take (f + 3 + i) d) (get_or d (f + 3 + i) 0 ∷ (take m (drop (f + i + 1) d) ++ drop (f + 3 + i + 1 + m) d)) 0 (f + i) (omega arith)
-      ∙ get_or-take (f + 3 + i) d (f + i) 0 (omega arith)
-
-  raised : set (paste d (f + 3 + i + 1) (drop (f + i + 1) d) m) (f + 3 + i) (get_or d (f + i) 0) ≡ paste d (f + 3 + i) (drop (f + i) d) (m + 1)
-  raised =
-      let v = get_or d (f + i) 0 in
-      let moved = take m (drop (f + i + 1) d) in
-      let rest = drop (f + 3 + i + 1 + m) d in
-      let more : take (m + 1) (drop (f + i) d) ≡ v ∷ moved
-      = ap (λ n. take n (drop (f + i) d)) (add-one m) ∙ ap (take (suc m)) (drop_more d (f + i) 0 (omega arith)) in
-      let end : f + 3 + i + (m + 1) ≡ f + 3 + i + 1 + m = omega arith in
-      ap (λ q. set q (f + 3 + i) v) parted
-      ∙ set_at (take (f + 3 + i) d) (get_or d (f + 3 + i) 0) (moved ++ rest) v (f + 3 + i) (length-take-le (f + 3 + i) d (omega arith))
-      ∙ sym (append_assoc (take (f + 3 + i) d) (v ∷ moved) rest)
-      ∙ sym (ap (λ t. take (f + 3 + i) d ++ t ++ drop (f + 3 + i + (m + 1)) d) more ∙ ap (λ k. take (f + 3 + i) d ++ (v ∷ moved) ++ drop k d) end)
-
-pub raise_more : (d s : List ℕ) (f n k : ℕ) → 0 < k → k ≤ n → f + 3 + n ≤ length d → s ≡ paste d (f + 3 + k) (drop (f + k) d) (n - k) →
-    set s (f + 3 + (k - 1)) (get_or s (f + (k - 1)) 0) ≡ paste d (f + 3 + (k - 1)) (drop (f + (k - 1)) d) (n - (k - 1))
-raise_more d s f n k pos le room e =
-    let i = k - 1 in
-    let m = n - k in
-    let a : f + 3 + k ≡ f + 3 + i + 1 = omega arith in
-    let b : f + k ≡ f + i + 1 = omega arith in
-    let c : n - i ≡ m + 1 = omega arith in
-    let fits : f + 3 + i + 1 + m ≤ length d = omega arith in
-    let e' : s ≡ paste d (f + 3 + i + 1) (drop (f + i + 1) d) m = e ∙ ap (λ t. paste d t (drop (f + k) d) m) a ∙ ap (λ t. paste d (f + 3 + i + 1) (drop t d) m) b in
-    ap (λ q. set q (f + 3 + i) (get_or q (f + i) 0)) e'
-    ∙ ap (set (paste d (f + 3 + i + 1) (drop (f + i + 1) d) m) (f + 3 + i)) (not_yet d f i m fits)
-    ∙ raised d f i m fits
-    ∙ ap (paste d (f + 3 + i) (drop (f + i) d)) (sym c)
-
-pub raise_none : (d : List ℕ) (f n : ℕ) → d ≡ paste d (f + 3 + n) (drop (f + n) d) (n - n)
-raise_none d f n =
-    let none : n - n ≡ 0 = omega arith in
-    paste_none d (f + 3 + n) (drop (f + n) d) ∙ ap (paste d (f + 3 + n) (drop (f + n) d)) (sym none)
-
--- a head written
-headed : (l : List ℕ) (b m p c : ℕ) → b + 3 ≤ length l → set (set (set l b m) (b + 1) p) (b + 2) c ≡ take b l ++ (m ∷ p ∷ c ∷ drop (b + 3) l)
-headed l b m p c le =
-    let x = get_or l b 0 in
-    let y = get_or l (b + 1) 0 in
-    let z = get_or l (b + 2) 0 in
-    let low = take b l in
-    let rest = drop (b + 3) l in
-    let n = length-take-le b l (omega arith) in
-    let e : l ≡ low ++ (x ∷ y ∷ z ∷ rest) = sym (take-append-drop b l) ∙ ap (λ t. low ++ t) (head_cells l b le) in
-    ap (λ t. set (set (set t b m) (b + 1) p) (b + 2) c) e
-    ∙ ap (λ t. set (set t (b + 1) p) (b + 2) c) (set_at low x (y ∷ z ∷ rest) m b n)
-    ∙ ap (λ t. set t (b + 2) c) (set_in low (m ∷ y ∷ z ∷ rest) b 1 p n)
-    ∙ set_in low (m ∷ p ∷ z ∷ rest) b 2 c n
-
 -- arguments moved up, zeros, and a head: the cells of a frame
-module _ (d : List ℕ) (b n k m p c : ℕ) (room : b + 3 + n + k ≤ length d) where
-  upper : take (b + 3 + n + k) (paste (paste d (b + 3) (drop b d) n) (b + 3 + n) (replicate k 0) k) ≡ take (b + 3) d ++ (take n (drop b d) ++ replicate k 0)
-  upper =
-      let long : n ≤ length (drop b d) = simp length-drop (omega arith) in
-      let one = paste d (b + 3) (drop b d) n in
-      let l : length one ≡ length d = length-paste d (b + 3) (drop b d) n (omega arith) long in
-      let r = length-replicate k (zero) in
-      take-paste one (b + 3 + n) (replicate k 0) k (omega arith) (omega arith)
-      ∙ ap (λ t. t ++ take k (replicate k 0)) (take-paste d (b + 3) (drop b d) n (omega arith) long)
-      ∙ ap (λ t. take (b + 3) d ++ take n (drop b d) ++ t) (take_all k (replicate k 0) (omega arith))
-      ∙ append_assoc (take (b + 3) d) (take n (drop b d)) (replicate k 0)
+module _ (d : List ℕ) (b n k : ℕ) (room : b + 3 + n + k ≤ length d) where
+  module _ (one w : List ℕ) (moved : one ≡ paste d (b + 3) (drop b d) n) (zeros : w ≡ paste one (b + 3 + n) (replicate k 0) k) where
+    upper : take (b + 3 + n + k) w ≡ take (b + 3) d ++ (take n (drop b d) ++ replicate k 0)
+    upper =
+        let size : n ≤ length (drop b d) = simp length-drop (omega arith) in
+        let l : length one ≡ length d = ap length moved ∙ length-paste d (b + 3) (drop b d) n (omega arith) size in
+        let r = length-replicate k (zero) in
+        ap (take (b + 3 + n + k)) zeros
+        ∙ take-paste one (b + 3 + n) (replicate k 0) k (omega arith) (omega arith)
+        ∙ ap (λ t. t ++ take k (replicate k 0)) (ap (take (b + 3 + n)) moved ∙ take-paste d (b + 3) (drop b d) n (omega arith) size)
+        ∙ ap (λ t. (take (b + 3) d ++ take n (drop b d)) ++ t) (take_all k (replicate k 0) (omega arith))
+        ∙ append_assoc (take (b + 3) d) (take n (drop b d)) (replicate k 0)
 
-  pub laid_cells : (l : List ℕ) → l ≡ set (set (set (paste (paste d (b + 3) (drop b d) n) (b + 3 + n) (replicate k 0) k) b m) (b + 1) p) (b + 2) c →
-      take (b + 3 + n + k) l ≡ take b d ++ (m ∷ p ∷ c ∷ (take n (drop b d) ++ replicate k 0))
-  laid_cells l e =
-      let w = paste (paste d (b + 3) (drop b d) n) (b + 3 + n) (replicate k 0) k in
-      let top = b + 3 + n + k in
-      let new = take n (drop b d) ++ replicate k 0 in
-      let len = length-take-le (b + 3) d (omega arith) in
-      let fits : b + 3 ≤ length (take (b + 3) d ++ new) = simp length-append (omega arith) in
-      ap (take top) e
-      ∙ take-set-lt top (set (set w b m) (b + 1) p) (b + 2) c (omega arith)
-      ∙ ap (λ t. set t (b + 2) c) (take-set-lt top (set w b m) (b + 1) p (omega arith))
-      ∙ ap (λ t. set (set t (b + 1) p) (b + 2) c) (take-set-lt top w b m (omega arith))
-      ∙ ap (λ t. set (set (set t b m) (b + 1) p) (b + 2) c) upper
-      ∙ headed (take (b + 3) d ++ new) b m p c fits
-      ∙ ap (λ t. t ++ (m ∷ p ∷ c ∷ drop (b + 3) (take (b + 3) d ++ new))) (take-append-le b (take (b + 3) d) new (omega arith) ∙ take-take b (b + 3) d (omega arith))
-      ∙ ap (λ t. take b d ++ (m ∷ p ∷ c ∷ t)) (drop_at (take (b + 3) d) new (b + 3) len)
+    pub laid_cells : (hs : List ℕ) (j m p c : ℕ) → j ≡ 3 → hs ≡ m ∷ p ∷ c ∷ [] →
+        take (b + 3 + n + k) (put_mid b j w hs) ≡ take b d ++ (m ∷ p ∷ c ∷ (take n (drop b d) ++ replicate k 0))
+    laid_cells hs j m p c three head =
+        let l = put_mid b j w hs in
+        let new = take n (drop b d) ++ replicate k 0 in
+        let ends : b + 3 + n + k ≡ b + 3 + (n + k) = omega arith in
+        let size : length (take (b + 3 + n + k) w) ≡ b + 3 + length new = ap length upper ∙ length-append (take (b + 3) d) new ∙ ap (λ i. i + length new) (length-take-le (b + 3) d (omega arith)) in
+        let all = length-take (b + 3 + n + k) w in
+        let fits : b + 3 ≤ length w = omega arith in
+        let h : length hs ≡ 3 = ap length head in
+        let under : take b w ≡ take b d
+        = sym (take-take b (b + 3 + n + k) w (omega arith)) ∙ ap (take b) upper ∙ take-append-le b (take (b + 3) d) new (omega (arith, length-take-le (b + 3) d (omega arith))) ∙ take-take b (b + 3) d (omega arith) in
+        let above : take (n + k) (drop (b + 3) w) ≡ new
+        = sym (drop-take (b + 3) (n + k) w) ∙ ap (λ i. drop (b + 3) (take i w)) (sym ends) ∙ ap (drop (b + 3)) upper ∙ drop_at (take (b + 3) d) new (b + 3) (length-take-le (b + 3) d (omega arith)) in
+        ap (λ i. take i l) ends
+        ∙ take-add (b + 3) (n + k) l
+        ∙ ap (λ t. t ++ take (n + k) (drop (b + 3) l)) (take-put_mid b j w hs (b + 3) (omega arith) (omega arith))
+        ∙ ap (λ t. (take b w ++ hs) ++ take (n + k) t) (drop-put_mid b j w hs (b + 3) (omega arith) (omega arith) (h ∙ sym three))
+        ∙ ap (λ t. (take b w ++ hs) ++ t) above
+        ∙ append_assoc (take b w) hs new
+        ∙ ap (λ t. t ++ (hs ++ new)) under
+        ∙ ap (λ t. take b d ++ (t ++ new)) head
 
 -- the frame whose cells they are
 pub new_frame : (f low t : List ℕ) (b m p c : ℕ) → length low ≡ b → length t ≡ variables_of f m →

@@ -1,12 +1,13 @@
--- The parts of `Laid`, and what it says of the cells. Assumes nothing.
-use Rattle.std.proofs.Common.{◌≡◌, ℕ, zero, suc, ◌+◌, ◌-◌, ◌<◌, ◌≤◌, true, false, eqb, leb, List, ◌∷◌, length, get_or, take, drop, sym, refl, ap, ◌∙◌, arith}
+-- What holds of all frames, part by part, and what it says of the cells. Assumes nothing.
+use Rattle.std.proofs.Common.{◌≡◌, ℕ, zero, suc, ◌+◌, ◌-◌, ◌<◌, ◌≤◌, true, false, eqb, List, ◌∷◌, length, get_or, take, drop, sym, refl, ap, ◌∙◌, arith}
 use Rattle.std.proofs.lemmas.List.{length-drop, length-take-le, length-reverse, take-take, get_or-take}
-use Rattle.std.proofs.lemmas.Bool.{and_parts, and_from, leb-true, le-leb, eqb-false}
-use Rattle.machine.specs.Go.{frame_size, frames_size, cells_used}
+use Rattle.std.proofs.lemmas.Bool.{eqb-false}
+use Rattle.machine.specs.Go.{frames_size, cells_used}
 use Rattle.machine.specs.Cells.{frames_cells}
 use Rattle.frames.specs.declared.Frames.{Frames}
-use Rattle.frames.specs.Frames.{variables_of, frame_at, frames_at, laid, size, alone, running, waiting, is_laid, Laid}
-use Rattle.frames.proofs.Stack.{nearest_whole, rest_laid, laid_more, size_is, depth_fits, cells_hold, alone_is}
+use Rattle.frames.specs.Frames.{size, alone, running, waiting}
+use Rattle.frames.specs.Laid.{variables_of, frame_at, frames_at, laid}
+use Rattle.frames.proofs.Stack.{laid_more, size_is, depth_fits, cells_hold, alone_is}
 
 -- what lies below a base is the same in the first `top` cells
 module _ (f cells : List ℕ) (depth base top : ℕ) (le : base + 3 ≤ top) where
@@ -34,13 +35,10 @@ whole_below f cells base top whole inside =
     let l = length-take-le top cells inside in
     omega arith
 
--- frames by the parts that the code keeps
-module _ (x : Frames)
-    (whole : x.base + 3 + variables_of x.file.now (get_or x.cells.now x.base 0) ≤ x.top)
-    (inside : x.top ≤ length x.cells.now)
-    (below : laid x.file.now x.depth (take x.base x.cells.now) (get_or x.cells.now (x.base + 2) 0) ≡ true) where
+-- all frames, with the running one
+module _ (x : Frames) where
   low : x.base + 3 ≤ x.top
-  low = omega arith
+  low = omega (arith, x.whole)
 
   all_frames : frames_at x.file.now (suc x.depth) (take x.top x.cells.now) x.base ≡ running x ∷ waiting x
   unfolding running waiting
@@ -49,122 +47,90 @@ module _ (x : Frames)
   all_laid : laid x.file.now (suc x.depth) (take x.top x.cells.now) x.base ≡ true
   all_laid =
       laid_more x.file.now x.depth (take x.top x.cells.now) x.base
-      (whole_below x.file.now x.cells.now x.base x.top whole inside)
-      (laid_below x.file.now x.cells.now x.depth x.base x.top low ∙ below)
+      (whole_below x.file.now x.cells.now x.base x.top x.whole x.inside)
+      (laid_below x.file.now x.cells.now x.depth x.base x.top low ∙ x.below)
 
-  size_of : frames_size (running x ∷ waiting x) ≡ x.top
-  size_of =
+  pub ends : frames_size (running x ∷ waiting x) ≡ x.top
+  ends =
       sym (ap frames_size all_frames)
       ∙ size_is x.file.now (suc x.depth) (take x.top x.cells.now) x.base all_laid
-      ∙ length-take-le x.top x.cells.now inside
+      ∙ length-take-le x.top x.cells.now x.inside
 
-  alone_of : alone (waiting x) ≡ eqb x.depth 0
+  pub callers : alone (waiting x) ≡ eqb x.depth 0
   unfolding waiting
-  alone_of = alone_is x.file.now x.depth (take x.base x.cells.now) (get_or x.cells.now (x.base + 2) 0)
-
-  pub laid_of : x.top ≤ 65535 → Laid x
-  laid_of used = record { whole = whole; inside = inside; used = used; below = below; ends = size_of; callers = alone_of }
-
--- `Laid` and its test
-pub laid_tested : (x : Frames) → Laid x → is_laid x ≡ true
-unfolding is_laid
-laid_tested x h =
-    let i = h.inside in
-    let u = h.used in
-    and_from _ _ (all_laid x h.whole i h.below) (le-leb _ _ (fits x.top (size x) i u))
-  where
-    fits : (t n : ℕ) → t ≤ n → t ≤ 65535 → t ≤ cells_used n
-    fits t n p q = omega arith
-
-pub laid_from : (x : Frames) → is_laid x ≡ true → Laid x
-unfolding is_laid
-laid_from x h =
-    let p = and_parts (laid x.file.now (suc x.depth) (take x.top x.cells.now) x.base) (leb x.top (cells_used (size x))) h in
-    let used : x.top ≤ cells_used (size x) = leb-true x.top (cells_used (size x)) p.1 in
-    let inside : x.top ≤ length x.cells.now = omega arith in
-    let l = length-take-le x.top x.cells.now inside in
-    let w = nearest_whole x.file.now x.depth (take x.top x.cells.now) x.base p.0 in
-    let le : x.base + 3 ≤ x.top = omega arith in
-    let m = method_below x.file.now x.cells.now x.depth x.base x.top le in
-    let n = ap (variables_of x.file.now) m in
-    laid_of x (omega arith) inside
-    (sym (laid_below x.file.now x.cells.now x.depth x.base x.top le) ∙ rest_laid x.file.now x.depth (take x.top x.cells.now) x.base p.0)
-    (omega arith)
+  callers = alone_is x.file.now x.depth (take x.base x.cells.now) (get_or x.cells.now (x.base + 2) 0)
 
 -- the cells below the top are exactly the frames
-pub cells_are : (x : Frames) → Laid x → take x.top x.cells.now ≡ frames_cells (running x ∷ waiting x)
-cells_are x h =
-    cells_hold x.file.now (suc x.depth) (take x.top x.cells.now) x.base (all_laid x h.whole h.inside h.below)
-    ∙ ap frames_cells (all_frames x h.whole h.inside h.below)
-
-pub top_is : (x : Frames) → Laid x → x.top ≡ frame_size (running x) + frames_size (waiting x)
-top_is x h = sym h.ends
+pub cells_are : (x : Frames) → take x.top x.cells.now ≡ frames_cells (running x ∷ waiting x)
+cells_are x = cells_hold x.file.now (suc x.depth) (take x.top x.cells.now) x.base (all_laid x) ∙ ap frames_cells (all_frames x)
 
 -- how many variables and operands the running frame has
-pub variables_count : (x : Frames) → Laid x → length (running x).variables ≡ variables_of x.file.now (running x).method
+pub variables_count : (x : Frames) → length (running x).variables ≡ variables_of x.file.now (running x).method
 unfolding running
-variables_count x h =
+variables_count x =
     let q = take x.top x.cells.now in
     let n = variables_of x.file.now (get_or q x.base 0) in
-    let w = whole_below x.file.now x.cells.now x.base x.top h.whole h.inside in
+    let w = whole_below x.file.now x.cells.now x.base x.top x.whole x.inside in
     length-take-le n (drop (x.base + 3) q) (rw (length-drop (x.base + 3) q) (sum n (x.base + 3) (length q) w))
   where
     sum : (n b l : ℕ) → b + n ≤ l → n ≤ l - b
     sum n b l h = omega arith
 
-pub operands_count : (x : Frames) → Laid x → x.base + 3 + variables_of x.file.now (running x).method + length (running x).operands ≡ x.top
+pub operands_count : (x : Frames) → x.base + 3 + variables_of x.file.now (running x).method + length (running x).operands ≡ x.top
 unfolding running
-operands_count x h =
+operands_count x =
     let q = take x.top x.cells.now in
     let n = variables_of x.file.now (get_or q x.base 0) in
-    let w = whole_below x.file.now x.cells.now x.base x.top h.whole h.inside in
-    let l = length-take-le x.top x.cells.now h.inside in
+    let w = whole_below x.file.now x.cells.now x.base x.top x.whole x.inside in
+    let l = length-take-le x.top x.cells.now x.inside in
     let o = length-reverse (drop (x.base + 3 + n) q) ∙ length-drop (x.base + 3 + n) q in
     sum (x.base + 3 + n) (length q) x.top _ w l o
   where
     sum : (a q t o : ℕ) → a ≤ q → q ≡ t → o ≡ q - a → a + o ≡ t
     sum a q t o p e r = omega arith
 
-pub operands_below : (x : Frames) → Laid x → x.base + 3 + variables_of x.file.now (get_or x.cells.now x.base 0) + length (running x).operands ≡ x.top
+pub operands_below : (x : Frames) → x.base + 3 + variables_of x.file.now (get_or x.cells.now x.base 0) + length (running x).operands ≡ x.top
 unfolding running
-operands_below x h =
-    ap (λ k. x.base + 3 + variables_of x.file.now k + length (running x).operands) (sym (method_below x.file.now x.cells.now 0 x.base x.top (omega (arith, h.whole))))
-    ∙ operands_count x h
+operands_below x =
+    ap (λ k. x.base + 3 + variables_of x.file.now k + length (running x).operands) (sym (method_below x.file.now x.cells.now 0 x.base x.top (omega (arith, x.whole))))
+    ∙ operands_count x
 
 -- an operand, and a variable, that the frame has lie between its head and its top
-pub some_operand : (x : Frames) → Laid x → 0 < length (running x).operands → x.base + 3 + variables_of x.file.now (get_or x.cells.now x.base 0) < x.top
-some_operand x h some =
-    let o = operands_below x h in
+pub some_operand : (x : Frames) → 0 < length (running x).operands → x.base + 3 + variables_of x.file.now (get_or x.cells.now x.base 0) < x.top
+some_operand x some =
+    let w = x.whole in
+    let o = operands_below x in
     omega arith
 
-pub has_variable : (x : Frames) (i : ℕ) → Laid x → i < length (running x).variables → i < variables_of x.file.now (get_or x.cells.now x.base 0)
+pub has_variable : (x : Frames) (i : ℕ) → i < length (running x).variables → i < variables_of x.file.now (get_or x.cells.now x.base 0)
 unfolding running
-has_variable x i h few =
-    let v = variables_count x h in
-    let m = ap (variables_of x.file.now) (method_below x.file.now x.cells.now 0 x.base x.top (omega (arith, h.whole))) in
+has_variable x i few =
+    let v = variables_count x in
+    let m = ap (variables_of x.file.now) (method_below x.file.now x.cells.now 0 x.base x.top (omega (arith, x.whole))) in
     sum i _ _ _ few v m
   where
     sum : (i a b c : ℕ) → i < a → a ≡ b → b ≡ c → i < c
     sum i a b c p q r = omega arith
 
-pub some_caller : (x : Frames) → Laid x → alone (waiting x) ≡ false → 0 < x.depth
-some_caller x h callers = positive x.depth (eqb-false x.depth 0 (sym h.callers ∙ callers))
+pub some_caller : (x : Frames) → alone (waiting x) ≡ false → 0 < x.depth
+some_caller x waits = positive x.depth (eqb-false x.depth 0 (sym (callers x) ∙ waits))
   where
     positive : (d : ℕ) → (d ≡ 0 → ⊥) → 0 < d
     positive zero n = absurd (n refl)
     positive (suc d) n = omega arith
 
 -- each frame that waits takes cells
-pub few_callers : (x : Frames) → Laid x → x.depth ≤ 65535
-few_callers x h =
-    let d = depth_fits x.file.now x.depth (take x.base x.cells.now) (get_or x.cells.now (x.base + 2) 0) h.below in
-    let l = length-take-le x.base x.cells.now (omega (arith, h.whole, h.inside)) in
-    omega (arith, h.whole, h.used)
+pub few_callers : (x : Frames) → x.depth ≤ 65535
+few_callers x =
+    let d = depth_fits x.file.now x.depth (take x.base x.cells.now) (get_or x.cells.now (x.base + 2) 0) x.below in
+    let l = length-take-le x.base x.cells.now (omega (arith, x.whole, x.inside)) in
+    omega (arith, x.whole, x.used)
 
 -- what fits above the frames lies on the cells that are used
-pub room_above : (x : Frames) (k l : ℕ) → Laid x → k ≡ l → frames_size (running x ∷ waiting x) + 3 + l ≤ cells_used (size x) →
+pub room_above : (x : Frames) (k l : ℕ) → k ≡ l → frames_size (running x ∷ waiting x) + 3 + l ≤ cells_used (size x) →
     (x.top + (3 + k) ≤ length x.cells.now) × (x.top + (3 + k) ≤ 65535)
-room_above x k l h e room = fits (frames_size (running x ∷ waiting x)) x.top k l (size x) h.ends e room
+room_above x k l e room =
+    fits (frames_size (running x ∷ waiting x)) x.top k l (size x) (ends x) e room
   where
     fits : (a t k l n : ℕ) → a ≡ t → k ≡ l → a + 3 + l ≤ cells_used n → (t + (3 + k) ≤ n) × (t + (3 + k) ≤ 65535)
     fits a t k l n p q r = (omega arith, omega arith)

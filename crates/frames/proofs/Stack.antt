@@ -6,7 +6,8 @@ use Rattle.std.proofs.lemmas.Bool.{and_parts, and_from, leb-true, le-leb, eqb-tr
 use Rattle.machine.specs.Machine.{with_operands, with_variable}
 use Rattle.machine.specs.Go.{frames_size}
 use Rattle.machine.specs.Cells.{caller_base, frames_cells}
-use Rattle.frames.specs.Frames.{variables_of, frame_at, frames_at, laid, alone}
+use Rattle.frames.specs.Frames.{alone}
+use Rattle.frames.specs.Laid.{variables_of, frame_at, frames_at, laid}
 
 -- the parts of `laid`
 module _ (f : List ℕ) where

@@ -3,9 +3,11 @@ use Rattle.std.proofs.Common.{◌≡◌, ℕ, ◌+◌, ◌-◌, ◌<◌, ◌≤�
 use lib.Seq.{take-set-lt}
 use Rattle.std.proofs.lemmas.List.{take_more, take_more_set, take-set-le, get_or-set_other, get_or-take, get_or-drop}
 use Rattle.machine.specs.Machine.{with_operands, with_variable}
-use Rattle.frames.specs.Frames.{variables_of, frame_at, frames_at, laid}
+use Rattle.frames.specs.Laid.{variables_of, frame_at, frames_at, laid}
 use Rattle.frames.proofs.Stack.{push_frame, set_frame}
-use Rattle.frames.proofs.Parts.{whole_below, method_below}
+use Rattle.frames.specs.declared.Frames.{Frames}
+use Rattle.frames.specs.Frames.{running}
+use Rattle.frames.proofs.Parts.{whole_below, method_below, some_operand}
 
 -- a cell written above the head of the running frame
 module _ (f cells : List ℕ) (depth base i v : ℕ) (above : base + 3 ≤ i) where
@@ -60,3 +62,13 @@ popped f cells base top some inside =
     ap (λ k. frame_at f (take k cells) base) (sym e)
     ∙ ap (λ q. frame_at f q base) (take_more cells (top - 1) 0 (omega arith))
     ∙ push_frame f (take (top - 1) cells) base (get_or cells (top - 1) 0) (whole_below f cells base (top - 1) (omega arith) (omega arith))
+
+-- the last operand
+pub last_is : (x : Frames) → 0 < length (running x).operands → (running x).operands ≡ get_or x.cells.now (x.top - 1) 0 ∷ drop 1 (running x).operands
+unfolding running
+last_is x some =
+    let p = popped x.file.now x.cells.now x.base x.top (some_operand x some) x.inside in
+    ap (λ r. r.operands) p ∙ sym (ap (λ r. get_or x.cells.now (x.top - 1) 0 ∷ drop 1 r.operands) p)
+
+pub last_inside : (x : Frames) → 0 < length (running x).operands → 0 < x.top
+last_inside x some = let o = some_operand x some in omega arith

@@ -1,35 +1,11 @@
--- What the cells of a stack hold: frames one upon the other from cell 0 up. Assumes nothing.
-use Rattle.std.specs.Prelude.{◌≡◌, ℕ, zero, suc, ◌+◌, ◌≤◌, Bool, true, false, ◌&&◌, List, [], ◌∷◌, ◌++◌, reverse, length, take, drop, replicate, ◌==◌, nat_le, slice_index, refl}
+-- The frames of a run, as the plain machine has them. Assumes nothing.
+use Rattle.std.specs.Prelude.{◌≡◌, ℕ, ◌+◌, Bool, true, false, List, [], ◌∷◌, ◌++◌, reverse, length, take, replicate, slice_index, refl}
 use Rattle.std.proofs.Common.{◌∙◌}
 use Rattle.format.specs.Layout.{parameters, locals}
 use Rattle.machine.specs.Machine.{Frame}
-use Rattle.machine.specs.Go.{frames_size, cells_used}
 use Rattle.machine.specs.Cells.{frames_cells}
 use Rattle.frames.specs.declared.Frames.{Frames}
-
--- how many variables a frame of method k has
-unfoldable pub variables_of : List ℕ → ℕ → ℕ
-variables_of f k = parameters f k + locals f k
-
-pub variables_are : (f : List ℕ) (k : ℕ) → variables_of f k ≡ parameters f k + locals f k
-unfolding variables_of
-variables_are f k = refl
-
--- the frame whose cells are q from b on
-abbrev pub frame_at : List ℕ → List ℕ → ℕ → Frame
-frame_at f q b =
-    let n = variables_of f (slice_index q b) in
-    record { method = slice_index q b; return_place = slice_index q (b + 1); variables = take n (drop (b + 3) q); operands = reverse (drop (b + 3 + n) q) }
-
--- d frames that end where q ends, the nearest first, with base b
-abbrev pub frames_at : List ℕ → ℕ → List ℕ → ℕ → List Frame
-frames_at f zero q b = []
-frames_at f (suc d) q b = frame_at f q b ∷ frames_at f d (take b q) (slice_index q (b + 2))
-
--- q holds exactly d frames, the nearest with base b; below the last there is none, whose base is 65535
-abbrev pub laid : List ℕ → ℕ → List ℕ → ℕ → Bool
-laid f zero q b = length q == 0 && b == 65535
-laid f (suc d) q b = nat_le (b + 3 + variables_of f (slice_index q b)) (length q) && laid f d (take b q) (slice_index q (b + 2))
+use Rattle.frames.specs.Laid.{frame_at, frames_at}
 
 -- how many cells are lent
 abbrev pub size : Frames → ℕ
@@ -51,23 +27,9 @@ abbrev pub alone : List Frame → Bool
 alone [] = true
 alone (r ∷ rs) = false
 
--- the cells below the top are frames, as many as are told, and lie among those that are used
-unfoldable pub is_laid : Frames → Bool
-is_laid x =
-    laid x.file.now (suc x.depth) (take x.top x.cells.now) x.base && nat_le x.top (cells_used (size x))
-
--- the same in parts: the running frame is whole, where it ends, the frames below it, and how many there are
-pub record Laid (x : Frames) : Type 0 where
-  pub whole : x.base + 3 + variables_of x.file.now (slice_index x.cells.now x.base) ≤ x.top
-  pub inside : x.top ≤ length x.cells.now
-  pub used : x.top ≤ 65535
-  pub below : laid x.file.now x.depth (take x.base x.cells.now) (slice_index x.cells.now (x.base + 2)) ≡ true
-  pub ends : frames_size (running x ∷ waiting x) ≡ x.top
-  pub callers : alone (waiting x) ≡ (x.depth == 0)
-
 -- the cells below the top are those of the frames, as the plain machine lays them
 abbrev pub CellsAreFrames : Type 0
-CellsAreFrames = (x : Frames) → Laid x → take x.top x.cells.now ≡ frames_cells (running x ∷ waiting x)
+CellsAreFrames = (x : Frames) → take x.top x.cells.now ≡ frames_cells (running x ∷ waiting x)
 
 -- frames stay on the cells that they are lent, and are frames of the same program
 pub record Kept (before after : Frames) : Type 0 where

@@ -4,7 +4,7 @@ ghost use Rattle.format.specs.Layout.{parameters, locals};
 ghost use Rattle.format.specs.Tables.{entry_of};
 ghost use Rattle.machine.specs.Machine.{Frame, State, with_operands, main};
 ghost use Rattle.machine.specs.Go.{frames_size, cells_used};
-ghost use Rattle.frames.specs.Frames.{running, waiting, size, alone, called, Laid, Kept};
+ghost use Rattle.frames.specs.Frames.{running, waiting, size, alone, called, Kept};
 
 use crate::laying::{Head, lay};
 use crate::{Frames, HEAD};
@@ -18,7 +18,6 @@ impl<'f, 's> Frames<'f, 's> {
     pub fn open(file: &'f [u8], cells: &'s mut [u16]) -> Frames<'f, 's>
         requires plain { parameters file.now 0 ≡ 0 }
         requires room { 3 + locals file.now 0 ≤ cells_used (length cells.old) }
-        ensures laid { Laid result }
         ensures lent { result.cells.ghost_name ≡ cells.entry.ghost_name }
         ensures size { size result ≡ length cells.old }
         ensures file { result.file.now ≡ file.now }
@@ -29,28 +28,11 @@ impl<'f, 's> Frames<'f, 's> {
         Frames::open_main(file, cells, entry)
     }
 
-    /// No frame, on these cells. Only for the crates above, which lay none where main's does not fit.
-    pub fn none(file: &'f [u8], cells: &'s mut [u16]) -> Frames<'f, 's>
-        ensures lent { result.cells.ghost_name ≡ cells.entry.ghost_name }
-        ensures cells { result.cells.now ≡ cells.old }
-        ensures file { result.file.now ≡ file.now }
-        ensures empty { (result.base ≡ 0) × (result.top ≡ 0) × (result.depth ≡ 0) }
-    {
-        Frames {
-            file,
-            cells,
-            base: 0,
-            top: 0,
-            depth: 0,
-        }
-    }
-
-    /// Lays main's frame, by its entry.
+    /// Lays main's frame, by its entry. Apart from `open`, since its proof is written by hand.
     fn open_main(file: &'f [u8], cells: &'s mut [u16], entry: MethodEntry) -> Frames<'f, 's>
         requires plain { parameters file.now 0 ≡ 0 }
         requires room { 3 + locals file.now 0 ≤ cells_used (length cells.old) }
         requires entry { entry ≡ entry_of file.now 0 }
-        ensures laid { Laid result }
         ensures lent { result.cells.ghost_name ≡ cells.entry.ghost_name }
         ensures size { size result ≡ length cells.old }
         ensures file { result.file.now ≡ file.now }
@@ -75,10 +57,8 @@ impl<'f, 's> Frames<'f, 's> {
     /// Lays a called method's frame, whose parameters come off its caller's operands. Only for the crates above, which call
     /// where there are as many operands and the frame fits.
     pub fn enter(&mut self, method: u8, return_place: u16)
-        requires laid { Laid self.old }
         requires some { parameters self.old.file.now method ≤ length (running self.old).operands }
         requires room { frames_size (running self.old ∷ waiting self.old) + 3 + locals self.old.file.now method ≤ cells_used (size self.old) }
-        ensures laid { Laid self.new }
         ensures kept { Kept self.old self.new }
         ensures running { running self.new ≡ called self.old.file.now method return_place (running self.old).operands }
         ensures waiting { waiting self.new ≡ with_operands (running self.old) (drop (parameters self.old.file.now method) (running self.old).operands) ∷ waiting self.old }
@@ -87,13 +67,11 @@ impl<'f, 's> Frames<'f, 's> {
         self.enter_by(entry, method, return_place);
     }
 
-    /// Lays a called method's frame, by its entry.
+    /// Lays a called method's frame, by its entry. Apart from `enter`, since its proof is written by hand.
     fn enter_by(&mut self, entry: MethodEntry, method: u8, return_place: u16)
-        requires laid { Laid self.old }
         requires some { parameters self.old.file.now method ≤ length (running self.old).operands }
         requires room { frames_size (running self.old ∷ waiting self.old) + 3 + locals self.old.file.now method ≤ cells_used (size self.old) }
         requires entry { entry ≡ entry_of self.old.file.now method }
-        ensures laid { Laid self.new }
         ensures kept { Kept self.old self.new }
         ensures running { running self.new ≡ called self.old.file.now method return_place (running self.old).operands }
         ensures waiting { waiting self.new ≡ with_operands (running self.old) (drop (parameters self.old.file.now method) (running self.old).operands) ∷ waiting self.old }
@@ -113,9 +91,7 @@ impl<'f, 's> Frames<'f, 's> {
     /// Takes the running frame off, and answers the place where its caller goes on. Only for the crates above, which leave
     /// where a caller waits.
     pub fn leave(&mut self) -> u16
-        requires laid { Laid self.old }
         requires callers { alone (waiting self.old) ≡ false }
-        ensures laid { Laid self.new }
         ensures kept { Kept self.old self.new }
         ensures place { result ≡ (running self.old).return_place }
         ensures frames { waiting self.old ≡ running self.new ∷ waiting self.new }
@@ -127,7 +103,6 @@ impl<'f, 's> Frames<'f, 's> {
 
     /// Where the running frame's caller goes on.
     fn return_place(&self) -> u16
-        requires { Laid self.now }
         ensures { result ≡ (running self.now).return_place }
     {
         self.cells[self.base + 1]
@@ -135,9 +110,7 @@ impl<'f, 's> Frames<'f, 's> {
 
     /// Lowers the top below the running frame, and goes on with its caller's.
     fn drop_frame(&mut self)
-        requires laid { Laid self.old }
         requires callers { alone (waiting self.old) ≡ false }
-        ensures laid { Laid self.new }
         ensures kept { Kept self.old self.new }
         ensures frames { waiting self.old ≡ running self.new ∷ waiting self.new }
     {

@@ -2,6 +2,9 @@
 
 #![tactic(auto)]
 
+ghost use Rattle.std.specs.Prelude.{◌≡◌, ◌+◌, ◌≤◌, true, length, take, slice_index};
+ghost use Rattle.frames.specs.Laid.{variables_of, laid};
+
 mod calls;
 pub mod laws;
 mod laying;
@@ -30,4 +33,8 @@ pub struct Frames<'f, 's> {
     top: usize,
     /// how many frames wait below it
     depth: usize,
+    ghost whole: { base + 3 + variables_of file.now (slice_index cells.now base) ≤ top },
+    ghost inside: { top ≤ length cells.now },
+    ghost used: { top ≤ 65535 },
+    ghost below: { laid file.now depth (take base cells.now) (slice_index cells.now (base + 2)) ≡ true },
 }

@@ -2,16 +2,14 @@
 ghost use Rattle.std.specs.Prelude.{◌≡◌, ◌<◌, ◌∷◌, length, drop};
 ghost use Rattle.machine.specs.Machine.{Frame, with_operands};
 ghost use Rattle.machine.specs.Go.{frames_size, cells_used};
-ghost use Rattle.frames.specs.Frames.{running, waiting, size, Laid, Kept};
+ghost use Rattle.frames.specs.Frames.{running, waiting, size, Kept};
 
 use crate::Frames;
 
 impl<'f, 's> Frames<'f, 's> {
     /// Pushes an operand. Only for the crates above, which push where a cell is free.
     pub fn push(&mut self, value: u16)
-        requires laid { Laid self.old }
         requires room { frames_size (running self.old ∷ waiting self.old) < cells_used (size self.old) }
-        ensures laid { Laid self.new }
         ensures kept { Kept self.old self.new }
         ensures running { running self.new ≡ with_operands (running self.old) (value ∷ (running self.old).operands) }
         ensures waiting { waiting self.new ≡ waiting self.old }
@@ -21,9 +19,7 @@ impl<'f, 's> Frames<'f, 's> {
 
     /// Takes the last operand off. Only for the crates above, which pop where there is one.
     pub fn pop(&mut self) -> u16
-        requires laid { Laid self.old }
         requires some { 0 < length (running self.old).operands }
-        ensures laid { Laid self.new }
         ensures kept { Kept self.old self.new }
         ensures value { (running self.old).operands ≡ result ∷ (running self.new).operands }
         ensures running { running self.new ≡ with_operands (running self.old) (running self.new).operands }
@@ -34,11 +30,10 @@ impl<'f, 's> Frames<'f, 's> {
         value
     }
 
-    /// Writes the first cell above the frame, and raises the top above it.
+    /// Writes the first cell above the frame, and raises the top above it. Apart from `push`, since its proof is written by hand,
+    /// and what `push` promises is found from this contract alone.
     fn append(&mut self, value: u16)
-        requires laid { Laid self.old }
         requires room { frames_size (running self.old ∷ waiting self.old) < cells_used (size self.old) }
-        ensures laid { Laid self.new }
         ensures kept { Kept self.old self.new }
         ensures running { running self.new ≡ with_operands (running self.old) (value ∷ (running self.old).operands) }
         ensures waiting { waiting self.new ≡ waiting self.old }
@@ -48,17 +43,8 @@ impl<'f, 's> Frames<'f, 's> {
     }
 
     /// The last operand. Only for the crates above, which ask where there is one.
+    #[tactic(auto, using(crate::proofs::Writes::last_is, crate::proofs::Writes::last_inside))]
     pub fn last(&self) -> u16
-        requires laid { Laid self.now }
-        requires some { 0 < length (running self.now).operands }
-        ensures { (running self.now).operands ≡ result ∷ drop 1 (running self.now).operands }
-    {
-        self.top_cell()
-    }
-
-    /// The cell below the top.
-    fn top_cell(&self) -> u16
-        requires laid { Laid self.now }
         requires some { 0 < length (running self.now).operands }
         ensures { (running self.now).operands ≡ result ∷ drop 1 (running self.now).operands }
     {
@@ -67,9 +53,7 @@ impl<'f, 's> Frames<'f, 's> {
 
     /// Lowers the top below the last operand.
     fn drop_last(&mut self)
-        requires laid { Laid self.old }
         requires some { 0 < length (running self.old).operands }
-        ensures laid { Laid self.new }
         ensures kept { Kept self.old self.new }
         ensures running { running self.new ≡ with_operands (running self.old) (drop 1 (running self.old).operands) }
         ensures waiting { waiting self.new ≡ waiting self.old }

@@ -1,14 +1,14 @@
 //! How many cells the frames take, of how many.
 ghost use Rattle.std.specs.Prelude.{◌≡◌, ◌∷◌};
 ghost use Rattle.machine.specs.Go.{frames_size, cells_used};
-ghost use Rattle.frames.specs.Frames.{running, waiting, size, alone, Laid};
+ghost use Rattle.frames.specs.Frames.{running, waiting, size, alone};
 
 use crate::{Frames, MOST_CELLS};
 
 impl<'f, 's> Frames<'f, 's> {
-    /// The first cell above all frames. Only for the crates above, whose frames are laid.
+    /// The first cell above all frames.
+    #[tactic(auto, using(crate::proofs::Parts::ends))]
     pub fn top(&self) -> usize
-        requires laid { Laid self.now }
         ensures { result ≡ frames_size (running self.now ∷ waiting self.now) }
     {
         self.top
@@ -21,9 +21,9 @@ impl<'f, 's> Frames<'f, 's> {
         self.cells.len().min(MOST_CELLS)
     }
 
-    /// Whether no frame waits below the running one. Only for the crates above, whose frames are laid.
+    /// Whether no frame waits below the running one.
+    #[tactic(auto, using(crate::proofs::Parts::callers))]
     pub fn is_only(&self) -> bool
-        requires laid { Laid self.now }
         ensures { result ≡ alone (waiting self.now) }
     {
         self.depth == 0

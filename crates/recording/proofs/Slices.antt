@@ -5,8 +5,8 @@ use Rattle.machine.specs.declared.stop.Stop.{Stop}
 use Rattle.machine.specs.Machine.{State}
 use Rattle.machine.specs.Go.{Host, Outcome, outcome, start}
 use Rattle.machine.specs.Rows.{Event, slice, Row, row, new}
-use Rattle.frames.specs.Frames.{kept_refl, kept_trans}
 use Rattle.run.specs.declared.run.Run.{Run}
+use Rattle.run.proofs.Runs.{stays_refl, stays_trans}
 use Rattle.run.specs.Run.{file_of, sheet_of, size_of, seen, Goes, Stays}
 use Rattle.recording.specs.Recording.{slices, row_of, Makes}
 
@@ -34,7 +34,7 @@ pub record Going (r : Run) (h : Host) (fuels : List ℕ) (i : ℕ) (r' : Run) (h
   pub stays : Stays r r'
 
 pub going_first : (r : Run) (h : Host) (fuels : List ℕ) → Going r h fuels 0 r h
-going_first r h fuels = record { rows = λ sum. (sum, refl); stays = record { frames = kept_refl r.interpreter.frames; sheet = refl } }
+going_first r h fuels = record { rows = λ sum. (sum, refl); stays = stays_refl r }
 
 pub going_on : (r : Run) (h : Host) (fuels : List ℕ) (i : ℕ) (r' : Run) (h' : Host) → Going r h fuels i r' h' → i < length fuels →
     (r'' : Run) (h'' : Host) (answer : Stop × ℕ) → Goes r' h' (get_or fuels i 0) r'' h'' answer → Stays r' r'' → Going r h fuels (i + 1) r'' h''
@@ -43,17 +43,14 @@ going_on r h fuels i r' h' g within r'' h'' answer e stays = record {
       let sum' = (g.rows sum).0 in
       let o : Outcome = record { run = seen r''; host = h''; stop = answer.0; counted = answer.1 } in
       let home = at_home (file_of r) (file_of r') (sheet_of r) (sheet_of r') (size_of r) (size_of r') (get_or fuels i 0) (seen r') h' o
-      g.stays.frames.same_file g.stays.sheet g.stays.frames.same_size e in
+      g.stays.file g.stays.sheet g.stays.size e in
       let x : Row = record { cells = size_of r; run = seen r'; host = h'; sum = sum' } in (
         sum' + answer.1,
         (g.rows sum).1
             ∙ ap (λ (fs : List ℕ). row (file_of r) (sheet_of r) x (slices fs)) (drop_more fuels i 0 within)
             ∙ first_go (file_of r) (sheet_of r) (size_of r) (get_or fuels i 0) (seen r') h' o home sum' (slices (drop (i + 1) fuels)),
       );
-  stays = record {
-    frames = kept_trans r.interpreter.frames r'.interpreter.frames r''.interpreter.frames g.stays.frames stays.frames;
-    sheet = stays.sheet ∙ g.stays.sheet;
-  };
+  stays = stays_trans r r' r'' g.stays stays;
 }
 
 -- after all of them

@@ -8,10 +8,9 @@ use Rattle.machine.specs.Go.{Host, begins}
 use Rattle.machine.specs.Rows as any
 use Rattle.machine.specs.Rows.{slice, arrives, room_set, Row, apply_event, row, new, row_units, RowFollows, RowKeepsLevel, RowRests}
 use Rattle.machine.proofs.Row.{keeps_level_on, follows_on, never_begins_on}
-use Rattle.frames.specs.Frames.{kept_refl, kept_trans}
 use Rattle.run.specs.declared.run.Run.{Run}
 use Rattle.run.specs.Run.{file_of, sheet_of, size_of, Stays}
-use Rattle.run.proofs.Runs.{admitted_run}
+use Rattle.run.proofs.Runs.{admitted_run, stays_refl, stays_trans}
 use Rattle.rows.specs.declared.event.Event.{Event}
 use Rattle.rows.specs.Carried.{at, effect, effects, stop_after, last_stop, stop_or, count_of, effects_on, Carried, Carries, Comes, Lawful, GoesOn}
 
@@ -49,7 +48,7 @@ pub record Going (r0 : Run) (l0 : Label) (es : List Event) (i : ℕ) (r : Run) (
 
 pub going_start : (r : Run) (l : Label) (es : List Event) → Going r l es 0 r l None 0
 going_start r l es =
-    record { row = refl; stop = refl; stays = record { frames = kept_refl _; sheet = refl }; capacity = refl; few = omega arith }
+    record { row = refl; stop = refl; stays = stays_refl r; capacity = refl; few = omega arith }
 
 module _ (r0 : Run) (l0 : Label) (es : List Event) (i : ℕ) (r : Run) (l : Label) (last : Option Stop) (n : ℕ) (g : Going r0 l0 es i r l last n) where
   abbrev f : List ℕ
@@ -84,7 +83,7 @@ module _ (r0 : Run) (l0 : Label) (es : List Event) (i : ℕ) (r : Run) (l : Labe
             ap (λ (b : Option Stop). last_stop f s b (row f s x one) (effects f s (label_capacity l0) (row f s x one) (drop (i + 1) es))) stops ∙
             ap (λ (y : Row). last_stop f s (stop_or last answer) y (effects f s (label_capacity l0) y (drop (i + 1) es))) next
             ) ∙ g.stop;
-        stays = record { frames = kept_trans _ _ _ g.stays.frames c.stays.frames; sheet = c.stays.sheet ∙ g.stays.sheet };
+        stays = stays_trans _ _ _ g.stays c.stays;
         capacity = c.capacity ∙ g.capacity;
         few = more i n (count_of answer) g.few k;
       }
@@ -101,7 +100,7 @@ module _ (r0 : Run) (l0 : Label) (es : List Event) (i : ℕ) (r : Run) (l : Labe
       moved : (P : List ℕ → List ℕ → ℕ → Type 0) → P (file_of r) (sheet_of r) (label_capacity l) → P f s (label_capacity l0)
       moved P p =
           subst (λ (k : ℕ). P f s k) g.capacity
-          (subst (λ (t : List ℕ). P f t (label_capacity l)) g.stays.sheet (subst (λ (t : List ℕ). P t (sheet_of r) (label_capacity l)) g.stays.frames.same_file p))
+          (subst (λ (t : List ℕ). P f t (label_capacity l)) g.stays.sheet (subst (λ (t : List ℕ). P t (sheet_of r) (label_capacity l)) g.stays.file p))
 
       next : row f s x one ≡ at r' l' (n + count_of answer)
       next = moved (λ f s k. row f s x (effect k x e) ≡ at r' l' (n + count_of answer)) (c.row n)
@@ -155,6 +154,6 @@ goes_on r l es r' l' answer c h before n q = (comes, lawful r' l' h (before ++ d
 
     comes : Comes r' l' h (before ++ done) (n + answer.1)
     comes =
-        subst (λ (k : ℕ). row (file_of r') (sheet_of r') (new (file_of r') (sheet_of r') k h) (before ++ done) ≡ at r' l' (n + answer.1)) (sym c.stays.frames.same_size)
+        subst (λ (k : ℕ). row (file_of r') (sheet_of r') (new (file_of r') (sheet_of r') k h) (before ++ done) ≡ at r' l' (n + answer.1)) (sym c.stays.size)
         (subst (λ (t : List ℕ). row (file_of r') t (new (file_of r') t (size_of r) h) (before ++ done) ≡ at r' l' (n + answer.1)) (sym c.stays.sheet)
-        (subst (λ (t : List ℕ). row t s (new t s (size_of r) h) (before ++ done) ≡ at r' l' (n + answer.1)) (sym c.stays.frames.same_file) here))
+        (subst (λ (t : List ℕ). row t s (new t s (size_of r) h) (before ++ done) ≡ at r' l' (n + answer.1)) (sym c.stays.file) here))

@@ -9,10 +9,10 @@ use Rattle.machine.specs.Machine.{fed}
 use Rattle.machine.proofs.Invariant.{reads}
 use Rattle.machine.proofs.Doing.{not_nothing, encoded}
 use Rattle.run.specs.declared.interpreter.Interpreter.{Interpreter}
-use Rattle.run.specs.Sound.{program, numbers, state_of, stands, sound}
+use Rattle.run.specs.Standing.{program, numbers, state_of, stands}
 use Rattle.run.proofs.Ready.{ready, good}
 
-module _ (m : Interpreter) (ok : sound m ≡ true) where
+module _ (m : Interpreter) where
   abbrev bytes : List ℕ
   bytes = drop m.place (program m)
 
@@ -21,7 +21,7 @@ module _ (m : Interpreter) (ok : sound m ≡ true) where
   read = go (not (eqb (length_of (byte bytes 0)) 0) && leb (length_of (byte bytes 0)) (length bytes)) there
     where
       there : stands m ≡ None → ⊥
-      there = let h = ready m ok in not_nothing (program m) (numbers m) (good m h) (state_of m) h.sure
+      there = let h = ready m in not_nothing (program m) (numbers m) (good m) (state_of m) h.sure
 
       go : (b : Bool) → (cond b ((find (byte bytes 0) rows).read bytes) None ≡ None → ⊥) → cond b ((find (byte bytes 0) rows).read bytes) None ≡ (find (byte bytes 0) rows).read bytes
       go true h = refl
@@ -48,6 +48,6 @@ module _ (m : Interpreter) (ok : sound m ≡ true) where
     -- some instruction has the opcode
     pub has_opcode : (i : Instruction) × (stands m ≡ Some i) × (opcode_of i ≡ c)
     has_opcode =
-        let h = ready m ok in
-        let r = reads (program m) (numbers m) (good m h) (state_of m).running.method m.place h.sure.below h.sure.stands h.sure.few in
-        (r.0, r.1, (encoded (program m) (numbers m) (good m h) (fed (state_of m) [] []) h.sure r.0 r.1).opcode ∙ sym here)
+        let h = ready m in
+        let r = reads (program m) (numbers m) (good m) (state_of m).running.method m.place h.sure.below h.sure.stands h.sure.few in
+        (r.0, r.1, (encoded (program m) (numbers m) (good m) (fed (state_of m) [] []) h.sure r.0 r.1).opcode ∙ sym here)

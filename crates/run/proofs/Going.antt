@@ -1,5 +1,5 @@
 -- A go so far: where it stands beside the plain machine, and where it ends. Assumes nothing.
-use Rattle.std.proofs.Common.{◌≡◌, ℕ, ◌+◌, ◌-◌, ◌<◌, ◌≤◌, Bool, true, false, eqb, List, [], ◌++◌, length, is_some, Some, None, Option, unwrap_or, sym, refl, ap, ◌∙◌, subst, inl, inr, append_assoc, append-nil, add-zero, add-one, arith, length-append}
+use Rattle.std.proofs.Common.{◌≡◌, ℕ, ◌+◌, ◌-◌, ◌<◌, ◌≤◌, Bool, false, eqb, List, [], ◌++◌, length, is_some, Some, None, Option, unwrap_or, sym, refl, ap, ◌∙◌, subst, inl, inr, append_assoc, append-nil, add-zero, add-one, arith, length-append}
 use Rattle.std.specs.Option.{option_map}
 use Rattle.std.proofs.lemmas.Bool.{eq-eqb, ne_eqb, cases_lt}
 use Rattle.format.specs.Search.{◌else◌, when}
@@ -12,13 +12,12 @@ use Rattle.machine.proofs.Wide.{after_last}
 use Rattle.machine.proofs.Counts.{count_is}
 use Rattle.machine.proofs.Regroup.{hindrance_wide}
 use Rattle.run.specs.declared.interpreter.Interpreter.{Interpreter}
-use Rattle.run.specs.Sound.{program, numbers, cells, state_of, sound}
+use Rattle.run.specs.Standing.{program, numbers, cells, state_of}
 use Rattle.run.specs.Step.{hindered, Advanced}
 
 -- a go on the file f with the sheet s and n cells that began at the state st with the host h0, and has done j instructions:
 -- the interpreter m and the host h are where the plain machine is, and nothing stopped it before
 pub record Going (f s : List ℕ) (n fuel : ℕ) (st : State) (h0 : Host) (j : ℕ) (m : Interpreter) (h : Host) : Type 0 where
-  pub sound : sound m ≡ true
   pub file : program m ≡ f
   pub sheet : numbers m ≡ s
   pub size : cells m ≡ n
@@ -29,10 +28,9 @@ pub record Going (f s : List ℕ) (n fuel : ℕ) (st : State) (h0 : Host) (j : �
   pub free : (i : ℕ) → i < j → is_some (stop_at f s n h0.space fuel i (after f s i (fed st h0.waits []))) ≡ false
   pub within : j ≤ fuel
 
-pub going_start : (m : Interpreter) (h : Host) (fuel : ℕ) → sound m ≡ true → Going (program m) (numbers m) (cells m) fuel (state_of m) h 0 m h
-going_start m h fuel ok =
+pub going_start : (m : Interpreter) (h : Host) (fuel : ℕ) → Going (program m) (numbers m) (cells m) fuel (state_of m) h 0 m h
+going_start m h fuel =
     record {
-      sound = ok;
       file = refl;
       sheet = refl;
       size = refl;
@@ -115,7 +113,6 @@ module _ (f s : List ℕ) (n fuel : ℕ) (st : State) (h0 : Host) (j : ℕ) (m :
   pub going_on : reason fuel j m h ≡ None → (j ≡ fuel → ⊥) → (m' : Interpreter) (h' : Host) → Advanced m h m' h' → Going f s n fuel st h0 (j + 1) m' h'
   going_on e ne m' h' a =
       record {
-        sound = a.sound;
         file = a.kept.frames.same_file ∙ g.file;
         sheet = a.kept.sheet ∙ g.sheet;
         size = a.kept.frames.same_size ∙ g.size;

@@ -1,30 +1,31 @@
 -- The cells of a run hold its frames; and main's frame, where it fits, holds what a sound interpreter does. Assumes nothing.
-use Rattle.std.proofs.Common.{◌≡◌, ℕ, ◌+◌, ◌<◌, ◌≤◌, true, List, ◌∷◌, length, take, Some, Option, sym, refl, ap, ◌∙◌, subst, arith}
+use Rattle.std.proofs.Common.{◌≡◌, ℕ, ◌+◌, ◌<◌, ◌≤◌, true, List, ◌∷◌, length, take, Some, None, Option, refl, ap, ◌∙◌, subst, arith}
 use Rattle.std.proofs.lemmas.Bool.{and_from, leb-true}
 use Rattle.format.specs.Layout.{entry, parameters, locals}
 use Rattle.verifier.specs.Numbering.{number, Admitted}
 use Rattle.verifier.proofs.Peaks.{entry_low}
+use Rattle.machine.specs.declared.stop.End.{End}
 use Rattle.machine.specs.Machine.{State, main}
 use Rattle.machine.specs.Go.{top, frame_need, cells_used, begins}
 use Rattle.machine.specs.Cells.{cells_of}
 use Rattle.machine.proofs.Invariant.{Good, good_from, Sure}
 use Rattle.machine.proofs.Level.{sure_main}
-use Rattle.frames.specs.Frames.{Laid}
-use Rattle.frames.proofs.Parts.{cells_are, top_is}
-use Rattle.run.specs.declared.interpreter.Interpreter.{Interpreter}
-use Rattle.run.specs.Sound.{program, numbers, cells, state_of, all_fit, sound}
-use Rattle.run.proofs.Ready.{ready, sound_of}
+use Rattle.frames.specs.declared.Frames.{Frames}
+use Rattle.frames.specs.Frames.{running, waiting, size}
+use Rattle.frames.proofs.Parts.{cells_are, ends}
+use Rattle.run.specs.Sound.{all_fit, sound}
+use Rattle.run.proofs.Ready.{sound_of}
 use Rattle.run.proofs.Steps.{carry}
 
 some_is : {A : Type 0} {a b : A} → ◌≡◌ {A = Option A} (Some a) (Some b) → a ≡ b
 some_is e = cc
 
--- of a run that began
-pub holds : (m : Interpreter) → sound m ≡ true → (st : State) → ◌≡◌ {A = Option State} (Some (state_of m)) (Some st) → take (top st) m.frames.cells.now ≡ cells_of st
-holds m ok st e =
-    let l = (ready m ok).laid in
-    subst (λ (t : State). take (top t) m.frames.cells.now ≡ cells_of t) (some_is e)
-    (ap (λ (k : ℕ). take k m.frames.cells.now) (sym (top_is m.frames l)) ∙ cells_are m.frames l)
+-- of frames that a state has
+pub holds : (x : Frames) (p n : ℕ) (o : Option End) (st : State) →
+    ◌≡◌ {A = Option State} (Some (record { running = running x; waiting = waiting x; place = p; mode = n; ended = o })) (Some st) → take (top st) x.cells.now ≡ cells_of st
+holds x p n o st e =
+    subst (λ (t : State). take (top t) x.cells.now ≡ cells_of t) (some_is e)
+    (ap (λ (k : ℕ). take k x.cells.now) (ends x) ∙ cells_are x)
 
 -- main has no parameters, its peak is on the sheet, and where its frame fits its locals do
 module _ (f s : List ℕ) (a : Admitted f s) where
@@ -48,12 +49,11 @@ module _ (f s : List ℕ) (a : Admitted f s) where
       tight : (p l k c : ℕ) → 0 + 3 + p + l + k ≤ c → 3 + l ≤ c
       tight p l k c h = omega arith
 
-  -- an interpreter at main's start
-  pub main_sound : (m : Interpreter) → program m ≡ f → numbers m ≡ s → begins f s (cells m) ≡ true → Laid m.frames → state_of m ≡ main f → sound m ≡ true
-  main_sound m ef es fits l q =
-      sound_of m (record {
-        admitted = carry (λ f s _ _. Admitted f s) {n = 0} ef es refl q a;
-        laid = l;
-        sure = carry (λ f s _ t. Sure f s t) {n = 0} ef es refl q (sure_main f s g);
-        fit = carry (λ f s n t. all_fit f s n (t.running ∷ t.waiting) ≡ true) ef es refl q (and_from _ _ fits refl);
-      })
+  -- frames at main's start
+  pub main_sound : (x : Frames) (p : ℕ) → x.file.now ≡ f → begins f s (size x) ≡ true →
+      ◌≡◌ {A = State} (record { running = running x; waiting = waiting x; place = p; mode = 0; ended = None }) (main f) → sound x s p ≡ true
+  main_sound x p ef fits q =
+      sound_of x s p 0 None
+      (carry (λ f s _ _. Admitted f s) {n = 0} ef refl refl q a)
+      (carry (λ f s _ t. Sure f s t) {n = 0} ef refl refl q (sure_main f s g))
+      (carry (λ f s n t. all_fit f s n (t.running ∷ t.waiting) ≡ true) ef refl refl q (and_from _ _ fits refl))

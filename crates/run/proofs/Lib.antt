@@ -1,5 +1,6 @@
 pub mod Ready
 pub mod Steps
+pub mod Operations
 pub mod Calling
 pub mod Turning
 pub mod Going

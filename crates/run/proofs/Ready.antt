@@ -5,12 +5,14 @@ use Rattle.format.specs.Layout.{byte, methods, parameters, locals}
 use Rattle.bytecode.specs.Places.{is_place}
 use Rattle.verifier.specs.Numbering.{number, admit_refusal, Admitted}
 use Rattle.verifier.proofs.Places.{in_is_place, is_place_in}
+use Rattle.machine.specs.declared.stop.End.{End}
 use Rattle.machine.specs.Machine.{Frame, State}
 use Rattle.machine.proofs.Invariant.{Good, good_from, Called, Stack, Sure}
-use Rattle.frames.specs.Frames.{running, waiting, is_laid, Laid}
-use Rattle.frames.proofs.Parts.{laid_from, laid_tested}
+use Rattle.frames.specs.declared.Frames.{Frames}
+use Rattle.frames.specs.Frames.{running, waiting, size}
 use Rattle.run.specs.declared.interpreter.Interpreter.{Interpreter}
-use Rattle.run.specs.Sound.{program, numbers, cells, state_of, has_variables, waits_for, all_wait, level, all_fit, sound}
+use Rattle.run.specs.Sound.{has_variables, waits_for, all_wait, level, all_fit, sound}
+use Rattle.run.specs.Standing.{program, numbers, cells, state_of}
 
 -- several tests that all hold
 two : (a b : Bool) → (a && b) ≡ true → (a ≡ true) × (b ≡ true)
@@ -75,7 +77,7 @@ module _ (f s : List ℕ) where
   stack_to k b [] h = refl
   stack_to k b (c ∷ cs) h = and_from _ _ (called_to k b c h.0) (stack_to c.method c.return_place cs h.1)
 
-  sure_from : (x : State) → level f s x ≡ true → Sure f s x
+  sure_from : (x : State) → level f s x.running x.waiting x.place ≡ true → Sure f s x
   sure_from x e =
       let h = four (ltb x.running.method (methods f) && is_place f x.running.method x.place && leb (number s x.place) 255) (eqb (length x.running.operands) (number s x.place)) (has_variables f x.running) (all_wait f s x.running.method x.running.return_place x.waiting) e in
       let i = three (ltb x.running.method (methods f)) (is_place f x.running.method x.place) (leb (number s x.place) 255) h.0 in
@@ -88,7 +90,7 @@ module _ (f s : List ℕ) where
         stack = stack_from x.running.method x.running.return_place x.waiting h.3;
       }
 
-  sure_to : (x : State) → Sure f s x → level f s x ≡ true
+  sure_to : (x : State) → Sure f s x → level f s x.running x.waiting x.place ≡ true
   sure_to x h =
       all_four _ _ _ _
       (and_from _ _ (and_from _ _ (lt-ltb x.running.method (methods f) h.below) (in_is_place f x.running.method x.place h.stands)) (le-leb (number s x.place) 255 h.few))
@@ -98,7 +100,6 @@ module _ (f s : List ℕ) where
 
 pub record Ready (m : Interpreter) : Type 0 where
   pub admitted : Admitted (program m) (numbers m)
-  pub laid : Laid m.frames
   pub sure : Sure (program m) (numbers m) (state_of m)
   pub fit : all_fit (program m) (numbers m) (cells m) (running m.frames ∷ waiting m.frames) ≡ true
 
@@ -106,22 +107,19 @@ none : {A : Type 0} (o : Option A) → not (is_some o) ≡ true → o ≡ None
 none None e = refl
 none (Some x) e = cc
 
-pub ready : (m : Interpreter) → sound m ≡ true → Ready m
+pub ready : (m : Interpreter) → Ready m
 unfolding sound
-ready m e =
-    let h = four (not (is_some (admit_refusal (program m) (numbers m)))) (is_laid m.frames) (level (program m) (numbers m) (state_of m)) (all_fit (program m) (numbers m) (cells m) (running m.frames ∷ waiting m.frames)) e in
-    record {
-      admitted = none (admit_refusal (program m) (numbers m)) h.0;
-      laid = laid_from m.frames h.1;
-      sure = sure_from (program m) (numbers m) (state_of m) h.2;
-      fit = h.3;
-    }
+ready m =
+    let h = three (not (is_some (admit_refusal (program m) (numbers m)))) (level (program m) (numbers m) (running m.frames) (waiting m.frames) m.place) (all_fit (program m) (numbers m) (cells m) (running m.frames ∷ waiting m.frames)) m.sound in
+    record { admitted = none (admit_refusal (program m) (numbers m)) h.0; sure = sure_from (program m) (numbers m) (state_of m) h.1; fit = h.2 }
 
-pub sound_of : (m : Interpreter) → Ready m → sound m ≡ true
+pub sound_of : (x : Frames) (s : List ℕ) (p n : ℕ) (o : Option End) → Admitted x.file.now s →
+    Sure x.file.now s (record { running = running x; waiting = waiting x; place = p; mode = n; ended = o }) →
+    all_fit x.file.now s (size x) (running x ∷ waiting x) ≡ true → sound x s p ≡ true
 unfolding sound
-sound_of m h =
-    all_four _ _ _ _ (ap (λ o. not (is_some o)) h.admitted) (laid_tested m.frames h.laid)
-    (sure_to (program m) (numbers m) (state_of m) h.sure) h.fit
+sound_of x s p n o a sure fit =
+    and_from _ _ (and_from _ _ (ap (λ o. not (is_some o)) a)
+    (sure_to x.file.now s (record { running = running x; waiting = waiting x; place = p; mode = n; ended = o }) sure)) fit
 
-pub good : (m : Interpreter) → Ready m → Good (program m) (numbers m)
-good m h = good_from (program m) (numbers m) h.admitted
+pub good : (m : Interpreter) → Good (program m) (numbers m)
+good m = good_from (program m) (numbers m) (ready m).admitted

@@ -7,6 +7,7 @@ use Rattle.bytecode.specs.declared.instruction.Instruction.{Instruction}
 use Rattle.bytecode.specs.declared.instruction.Instruction.TheVariants.{Invokevirtual, In, Out}
 use Rattle.bytecode.specs.Encoding.{opcode_of}
 use Rattle.bytecode.specs.Places.{next}
+use Rattle.output.specs.Mode.{mode_number}
 use Rattle.output.specs.Text.{text}
 use Rattle.machine.specs.declared.stop.Stop.{Stop}
 use Rattle.machine.specs.declared.stop.Stop.TheVariants.{NoUnit, NoRoom, StackFull}
@@ -15,13 +16,13 @@ use Rattle.machine.specs.Go.{Host, frames_size, cells_used, callee_need, next_te
 use Rattle.machine.proofs.Invariant.{Sure}
 use Rattle.machine.proofs.Doing.{below_peak, encoded, not_awaiting, done}
 use Rattle.frames.specs.declared.Frames.{Frames}
-use Rattle.frames.specs.Frames.{running, waiting, size, Laid, Kept, kept_refl}
+use Rattle.frames.specs.Frames.{running, waiting, size, Kept, kept_refl}
 use Rattle.run.specs.declared.interpreter.Interpreter.{Interpreter}
-use Rattle.run.specs.Sound.{program, numbers, cells, state_of, stands, sound}
+use Rattle.run.specs.Standing.{program, numbers, cells, state_of, stands}
 use Rattle.run.specs.Done.{is_free, Done, Took, Wrote}
 use Rattle.run.specs.Step.{host_of, hindered, Advanced, Turn}
 use Rattle.run.proofs.Ready.{ready, good}
-use Rattle.run.proofs.Steps.{same_state, cell_free, sound_after, code, does, next_is}
+use Rattle.run.proofs.Steps.{Comes, same_state, cell_free, sound_after, code, does, next_is}
 
 nothing_below : (n : ℕ) → ltb n 0 ≡ false
 nothing_below n = le-ltb n 0 zero-le
@@ -36,16 +37,16 @@ skip true x o e = cc
 skip false x o e = refl
 
 -- the instruction i stands at the place
-module _ (m : Interpreter) (ok : sound m ≡ true) (i : Instruction) (here : stands m ≡ Some i) where
+module _ (m : Interpreter) (i : Instruction) (here : stands m ≡ Some i) where
   abbrev value : ℕ
   value = get_or (running m.frames).operands 0 0
 
   opcode_here : byte (program m) m.place ≡ opcode_of i
-  opcode_here = let h = ready m ok in sym (encoded (program m) (numbers m) (good m h) (fed (state_of m) [] []) h.sure i here).opcode
+  opcode_here = let h = ready m in sym (encoded (program m) (numbers m) (good m) (fed (state_of m) [] []) h.sure i here).opcode
 
   -- what it writes, and what hinders it, by its opcode
   abbrev writes_as : ℕ → List ℕ
-  writes_as c = cond (eqb c 0xF1) (text m.mode value) []
+  writes_as c = cond (eqb c 0xF1) (text (mode_number m.mode) value) []
 
   pub writes_is : next_text (program m) (state_of m) ≡ writes_as (opcode_of i)
   writes_is = ap writes_as opcode_here
@@ -63,12 +64,12 @@ module _ (m : Interpreter) (ok : sound m ≡ true) (i : Instruction) (here : sta
   abbrev hinders_by : Host → Bool → Bool → Bool → Option Stop
   hinders_by h a b d =
       when (none_left h.waits && a) NoUnit else
-      when (ltb h.space (0 + length (cond b (text m.mode value) []))) NoRoom else
+      when (ltb h.space (0 + length (cond b (text (mode_number m.mode) value) []))) NoRoom else
       when (ltb (cells_used (cells m)) (unwrap_or (when d (callee_need (program m) (numbers m) (state_of m) (byte (program m) (m.place + 1)))) 0)) StackFull
 
   -- one that is no IN, no OUT or no call
   no_in : (h : Host) (b d : Bool) → hinders_by h false b d ≡
-      (when (ltb h.space (0 + length (cond b (text m.mode value) []))) NoRoom else
+      (when (ltb h.space (0 + length (cond b (text (mode_number m.mode) value) []))) NoRoom else
       when (ltb (cells_used (cells m)) (unwrap_or (when d (callee_need (program m) (numbers m) (state_of m) (byte (program m) (m.place + 1)))) 0)) StackFull)
   no_in h b d = skip (none_left h.waits && false) NoUnit _ (and_right (none_left h.waits) false refl)
 
@@ -92,36 +93,36 @@ module _ (m : Interpreter) (ok : sound m ≡ true) (i : Instruction) (here : sta
       same_tests h a b d p q r = cc
 
   pub free_writes : eqb (opcode_of i) 0xF1 ≡ false → next_text (program m) (state_of m) ≡ []
-  free_writes e = writes_is ∙ ap (λ (b : Bool). cond b (text m.mode value) []) e
+  free_writes e = writes_is ∙ ap (λ (b : Bool). cond b (text (mode_number m.mode) value) []) e
 
-pub call_hinders : (m : Interpreter) (ok : sound m ≡ true) (k : ℕ) (here : stands m ≡ Some (Invokevirtual k)) (h : Host) →
+pub call_hinders : (m : Interpreter) (k : ℕ) (here : stands m ≡ Some (Invokevirtual k)) (h : Host) →
     hindered m h ≡ when (ltb (cells_used (cells m)) (callee_need (program m) (numbers m) (state_of m) k)) StackFull
-call_hinders m ok k here h =
-    hinders_is m ok (Invokevirtual k) here h ∙ no_out m ok (Invokevirtual k) here h true ∙
-    ap (λ (j : ℕ). when (ltb (cells_used (cells m)) (callee_need (program m) (numbers m) (state_of m) j)) StackFull) (code m ok (Invokevirtual k) here).arguments
+call_hinders m k here h =
+    hinders_is m (Invokevirtual k) here h ∙ no_out m (Invokevirtual k) here h true ∙
+    ap (λ (j : ℕ). when (ltb (cells_used (cells m)) (callee_need (program m) (numbers m) (state_of m) j)) StackFull) (code m (Invokevirtual k) here).arguments
 
 else_nothing : (o : Option Stop) → (o else None) ≡ o
 else_nothing None = refl
 else_nothing (Some x) = refl
 
-pub in_hinders : (m : Interpreter) (ok : sound m ≡ true) (here : stands m ≡ Some In) (h : Host) → hindered m h ≡ when (none_left h.waits) NoUnit
-in_hinders m ok here h =
-    hinders_is m ok In here h ∙
-    ap (λ (o : Option Stop). when (none_left h.waits && true) NoUnit else o) (ap (λ (t : Bool). when t NoRoom else when (ltb (cells_used (cells m)) 0) StackFull) (nothing_below h.space) ∙ no_call m ok In here) ∙
+pub in_hinders : (m : Interpreter) (here : stands m ≡ Some In) (h : Host) → hindered m h ≡ when (none_left h.waits) NoUnit
+in_hinders m here h =
+    hinders_is m In here h ∙
+    ap (λ (o : Option Stop). when (none_left h.waits && true) NoUnit else o) (ap (λ (t : Bool). when t NoRoom else when (ltb (cells_used (cells m)) 0) StackFull) (nothing_below h.space) ∙ no_call m In here) ∙
     else_nothing (when (none_left h.waits && true) NoUnit) ∙ ap (λ (t : Bool). when t NoUnit) (and_true (none_left h.waits))
   where
     and_true : (b : Bool) → (b && true) ≡ b
     and_true true = refl
     and_true false = refl
 
-pub out_hinders : (m : Interpreter) (ok : sound m ≡ true) (here : stands m ≡ Some Out) (h : Host) →
+pub out_hinders : (m : Interpreter) (here : stands m ≡ Some Out) (h : Host) →
     hindered m h ≡ when (ltb h.space (length (next_text (program m) (state_of m)))) NoRoom
-out_hinders m ok here h =
-    hinders_is m ok Out here h ∙ no_in m ok Out here h true false ∙
-    ap (λ (o : Option Stop). when (ltb h.space (0 + length (text m.mode (value m ok Out here)))) NoRoom else o) (no_call m ok Out here) ∙
-    else_nothing (when (ltb h.space (0 + length (text m.mode (value m ok Out here)))) NoRoom) ∙
-    ap (λ (n : ℕ). when (ltb h.space n) NoRoom) (zero-add (length (text m.mode (value m ok Out here)))) ∙
-    ap (λ (t : List ℕ). when (ltb h.space (length t)) NoRoom) (sym (writes_is m ok Out here))
+out_hinders m here h =
+    hinders_is m Out here h ∙ no_in m Out here h true false ∙
+    ap (λ (o : Option Stop). when (ltb h.space (0 + length (text (mode_number m.mode) (value m Out here)))) NoRoom else o) (no_call m Out here) ∙
+    else_nothing (when (ltb h.space (0 + length (text (mode_number m.mode) (value m Out here)))) NoRoom) ∙
+    ap (λ (n : ℕ). when (ltb h.space n) NoRoom) (zero-add (length (text (mode_number m.mode) (value m Out here)))) ∙
+    ap (λ (t : List ℕ). when (ltb h.space (length t)) NoRoom) (sym (writes_is m Out here))
 
 -- a step of the plain machine that is not idle
 steps : (f s : List ℕ) (x y : Fed) → is_some x.state.ended ≡ false → awaits_input f x ≡ false → executed f s x ≡ Some y → step f s x ≡ y
@@ -129,28 +130,26 @@ steps f s x y a b e =
     ap (λ (t : Bool). cond t x (unwrap_or (executed f s x) x)) (or_from (is_some x.state.ended) (awaits_input f x) a b) ∙ ap (λ (o : Option Fed). unwrap_or o x) e
 
 -- an instruction was done that the host had no part in
-pub free_turn : (m : Interpreter) (ok : sound m ≡ true) (i : Instruction) (here : stands m ≡ Some i) → is_some m.ended ≡ false →
+pub free_turn : (m : Interpreter) (i : Instruction) (here : stands m ≡ Some i) → is_some m.ended ≡ false →
     eqb (opcode_of i) 0xF0 ≡ false → eqb (opcode_of i) 0xF1 ≡ false → (m' : Interpreter) → Done m m' → (h : Host) → Advanced m h m' h
-free_turn m ok i here alive no_in no_out m' d h =
-    let none = free_writes m ok i here no_out in
+free_turn m i here alive no_in no_out m' d h =
+    let none = free_writes m i here no_out in
     record {
-      sound = d.sound;
       kept = d.kept;
       does = λ vs.
           steps (program m) (numbers m) (fed (state_of m) h.waits vs) (fed (state_of m') h.waits vs) alive
-          (let r = ready m ok in not_awaiting (program m) (numbers m) (good m r) (fed (state_of m) h.waits vs) r.sure i here no_in) (d.does h.waits vs) ∙
+          (let r = ready m in not_awaiting (program m) (numbers m) (good m) (fed (state_of m) h.waits vs) r.sure i here no_in) (d.does h.waits vs) ∙
           ap (fed (state_of m') h.waits) (sym (append-nil vs) ∙ ap (λ (t : List ℕ). vs ++ t) (sym none));
       writes = sym (append-nil h.written) ∙ ap (λ (t : List ℕ). h.written ++ t) (sym none);
       takes_room = sym (add-zero h.space) ∙ ap (λ (t : List ℕ). h.space + length t) (sym none);
     }
 
 -- a unit was taken
-pub took_turn : (m : Interpreter) (ok : sound m ≡ true) (here : stands m ≡ Some In) → is_some m.ended ≡ false →
+pub took_turn : (m : Interpreter) (here : stands m ≡ Some In) → is_some m.ended ≡ false →
     (u : ℕ) (m' : Interpreter) → Took u m m' → (h h' : Host) → h.waits ≡ u ∷ h'.waits → h'.written ≡ h.written → h'.space ≡ h.space → Advanced m h m' h'
-took_turn m ok here alive u m' d h h' ew eo es =
-    let none = free_writes m ok In here refl in
+took_turn m here alive u m' d h h' ew eo es =
+    let none = free_writes m In here refl in
     record {
-      sound = d.sound;
       kept = d.kept;
       does = λ vs.
           ap (λ (us : List ℕ). step (program m) (numbers m) (fed (state_of m) us vs)) ew ∙
@@ -161,68 +160,72 @@ took_turn m ok here alive u m' d h h' ew eo es =
     }
 
 -- units were put
-pub wrote_turn : (m : Interpreter) (ok : sound m ≡ true) (here : stands m ≡ Some Out) → is_some m.ended ≡ false →
+pub wrote_turn : (m : Interpreter) (here : stands m ≡ Some Out) → is_some m.ended ≡ false →
     (m' : Interpreter) → Wrote (next_text (program m) (state_of m)) m m' → (h h' : Host) → h'.waits ≡ h.waits →
     h'.written ≡ h.written ++ next_text (program m) (state_of m) → h.space ≡ h'.space + length (next_text (program m) (state_of m)) → Advanced m h m' h'
-wrote_turn m ok here alive m' d h h' ew eo es =
+wrote_turn m here alive m' d h h' ew eo es =
     record {
-      sound = d.sound;
       kept = d.kept;
       does = λ vs.
           steps (program m) (numbers m) (fed (state_of m) h.waits vs) (fed (state_of m') h.waits (vs ++ next_text (program m) (state_of m))) alive
-          (let r = ready m ok in not_awaiting (program m) (numbers m) (good m r) (fed (state_of m) h.waits vs) r.sure Out here refl) (d.does h.waits vs) ∙
+          (let r = ready m in not_awaiting (program m) (numbers m) (good m) (fed (state_of m) h.waits vs) r.sure Out here refl) (d.does h.waits vs) ∙
           ap (λ (us : List ℕ). fed (state_of m') us (vs ++ next_text (program m) (state_of m))) (sym ew);
       writes = eo;
       takes_room = es;
     }
 
 -- IN with the unit u
-module _ (m : Interpreter) (ok : sound m ≡ true) (here : stands m ≡ Some In) (u : ℕ) where
+module _ (m : Interpreter) (here : stands m ≡ Some In) (u : ℕ) where
   abbrev taken_state : State
   taken_state = continue_at (state_of m) (with_operands (running m.frames) (u ∷ (running m.frames).operands)) (next (program m) m.place)
 
   takes : (us vs : List ℕ) → (executed (program m) (numbers m) (fed (state_of m) (u ∷ us) vs) ≡ Some (fed taken_state us vs)) × Sure (program m) (numbers m) taken_state
-  takes us vs = let h = ready m ok in done (program m) (numbers m) (good m h) (fed (state_of m) (u ∷ us) vs) h.sure In here refl (fed taken_state us vs) refl
+  takes us vs = let h = ready m in done (program m) (numbers m) (good m) (fed (state_of m) (u ∷ us) vs) h.sure In here refl (fed taken_state us vs) refl
 
   pub unit_room : frames_size (running m.frames ∷ waiting m.frames) < cells_used (size m.frames)
   unit_room =
-      cell_free m ok m.frames (running m.frames).operands (kept_refl m.frames) refl refl
-      (below_peak (program m) (numbers m) (good m (ready m ok)) taken_state (takes [] []).1)
+      cell_free m m.frames (running m.frames).operands (kept_refl m.frames) refl refl
+      (below_peak (program m) (numbers m) (good m) taken_state (takes [] []).1)
 
-  pub took : (y : Frames) → Kept m.frames y → Laid y → running y ≡ with_operands (running m.frames) (u ∷ (running m.frames).operands) → waiting y ≡ waiting m.frames →
-      Took u m (record { frames = y; sheet = m.sheet; place = m.place + 1; mode = m.mode; ended = m.ended })
-  took y k l er ew =
-      let q = same_state {n = m.mode} {o = m.ended} er ew (sym (next_is m ok In here)) in
+  pub took : (y : Frames) → Kept m.frames y → running y ≡ with_operands (running m.frames) (u ∷ (running m.frames).operands) → waiting y ≡ waiting m.frames →
+      Comes (Took u m) m y (m.place + 1) m.mode m.ended
+  took y k er ew =
+      let q = same_state {n = mode_number m.mode} {o = m.ended} er ew (sym (next_is m In here)) in
       record {
-        sound = sound_after m ok taken_state (takes [] []).1 _ k refl l q (ready m ok).fit;
-        kept = record { frames = k; sheet = refl };
-        does = λ us vs. (takes us vs).0 ∙ ap (λ (t : State). Some (fed t us vs)) (sym q);
+        holds = sound_after m taken_state (takes [] []).1 y (m.place + 1) (mode_number m.mode) m.ended k q (ready m).fit;
+        does = λ ok. record {
+          kept = record { frames = k; sheet = refl };
+          does = λ us vs. (takes us vs).0 ∙ ap (λ (t : State). Some (fed t us vs)) (sym q);
+        };
       }
 
 -- OUT with v on top of the operands w
-module _ (m : Interpreter) (ok : sound m ≡ true) (here : stands m ≡ Some Out) (v : ℕ) (w : List ℕ) (top : (running m.frames).operands ≡ v ∷ w) where
-  pub writes_text : text m.mode v ≡ next_text (program m) (state_of m)
-  writes_text = ap (λ (t : List ℕ). text m.mode (get_or t 0 0)) (sym top) ∙ sym (writes_is m ok Out here)
+module _ (m : Interpreter) (here : stands m ≡ Some Out) (v : ℕ) (w : List ℕ) (top : (running m.frames).operands ≡ v ∷ w) where
+  pub writes_text : text (mode_number m.mode) v ≡ next_text (program m) (state_of m)
+  writes_text = ap (λ (t : List ℕ). text (mode_number m.mode) (get_or t 0 0)) (sym top) ∙ sym (writes_is m Out here)
 
   abbrev written_state : State
   written_state = continue_at (state_of m) (with_operands (running m.frames) w) (next (program m) m.place)
 
-  puts : (us vs : List ℕ) → (executed (program m) (numbers m) (fed (state_of m) us vs) ≡ Some (fed written_state us (vs ++ text m.mode v))) × Sure (program m) (numbers m) written_state
-  puts us vs = does m ok Out here refl (λ us vs. fed written_state us (vs ++ text m.mode v)) (λ us vs. ap (execute (program m) (fed (state_of m) us vs) Out) top) us vs
+  puts : (us vs : List ℕ) → (executed (program m) (numbers m) (fed (state_of m) us vs) ≡ Some (fed written_state us (vs ++ text (mode_number m.mode) v))) × Sure (program m) (numbers m) written_state
+  puts us vs = does m Out here refl (λ us vs. fed written_state us (vs ++ text (mode_number m.mode) v)) (λ us vs. ap (execute (program m) (fed (state_of m) us vs) Out) top) us vs
 
-  pub wrote : (y : Frames) → Kept m.frames y → Laid y → running y ≡ with_operands (running m.frames) w → waiting y ≡ waiting m.frames →
-      Wrote (next_text (program m) (state_of m)) m (record { frames = y; sheet = m.sheet; place = m.place + 1; mode = m.mode; ended = m.ended })
-  wrote y k l er ew =
-      let q = same_state {n = m.mode} {o = m.ended} er ew (sym (next_is m ok Out here)) in
+  pub wrote : (y : Frames) → Kept m.frames y → running y ≡ with_operands (running m.frames) w → waiting y ≡ waiting m.frames →
+      Comes (Wrote (next_text (program m) (state_of m)) m) m y (m.place + 1) m.mode m.ended
+  wrote y k er ew =
+      let q = same_state {n = mode_number m.mode} {o = m.ended} er ew (sym (next_is m Out here)) in
+      let st : State = record { running = running y; waiting = waiting y; place = m.place + 1; mode = mode_number m.mode; ended = m.ended } in
       record {
-        sound = sound_after m ok written_state (puts [] []).1 _ k refl l q (ready m ok).fit;
-        kept = record { frames = k; sheet = refl };
-        does = λ us vs. (puts us vs).0 ∙ ap (λ (t : State). Some (fed t us (vs ++ text m.mode v))) (sym q) ∙
-            ap (λ (t : List ℕ). Some (fed (state_of (record { frames = y; sheet = m.sheet; place = m.place + 1; mode = m.mode; ended = m.ended })) us (vs ++ t))) writes_text;
+        holds = sound_after m written_state (puts [] []).1 y (m.place + 1) (mode_number m.mode) m.ended k q (ready m).fit;
+        does = λ ok. record {
+          kept = record { frames = k; sheet = refl };
+          does = λ us vs. (puts us vs).0 ∙ ap (λ (t : State). Some (fed t us (vs ++ text (mode_number m.mode) v))) (sym q) ∙
+              ap (λ (t : List ℕ). Some (fed st us (vs ++ t))) writes_text;
+        };
       }
 
 -- a call: what it answers, and what it did
-pub call_turn : (m : Interpreter) (ok : sound m ≡ true) (k : ℕ) (here : stands m ≡ Some (Invokevirtual k)) → is_some m.ended ≡ false →
+pub call_turn : (m : Interpreter) (k : ℕ) (here : stands m ≡ Some (Invokevirtual k)) → is_some m.ended ≡ false →
     (o : Option Stop) (m' : Interpreter) → MatchOption o (Done m m') (λ _. m' ≡ m) → (h : Host) → Turn m h o m' h
-call_turn m ok k here alive None m' d h = free_turn m ok (Invokevirtual k) here alive refl refl m' d h
-call_turn m ok k here alive (Some stop) m' d h = (d, refl)
+call_turn m k here alive None m' d h = free_turn m (Invokevirtual k) here alive refl refl m' d h
+call_turn m k here alive (Some stop) m' d h = (d, refl)

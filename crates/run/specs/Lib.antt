@@ -1,4 +1,5 @@
 pub mod Sound
+pub mod Standing
 pub mod Done
 pub mod Step
 pub mod Run

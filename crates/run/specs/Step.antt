@@ -1,10 +1,10 @@
 -- What one turn of a go does to the interpreter and to the host. Assumes nothing.
-use Rattle.std.specs.Prelude.{◌≡◌, ℕ, ◌+◌, true, List, [], ◌++◌, length, Some, None, Option}
+use Rattle.std.specs.Prelude.{◌≡◌, ℕ, ◌+◌, List, [], ◌++◌, length, Some, None, Option}
 use Rattle.machine.specs.declared.stop.Stop.{Stop}
 use Rattle.machine.specs.Machine.{fed, step}
 use Rattle.machine.specs.Go.{Host, next_text, hindrance}
 use Rattle.run.specs.declared.interpreter.Interpreter.{Interpreter}
-use Rattle.run.specs.Sound.{program, numbers, cells, state_of, sound}
+use Rattle.run.specs.Standing.{program, numbers, cells, state_of}
 use Rattle.run.specs.Done.{Kept}
 
 -- a host by value
@@ -17,7 +17,6 @@ hindered m h = hindrance (program m) (numbers m) (cells m) h.space (fed (state_o
 
 -- the next instruction was done, on the host too: what it writes comes after what was written, and takes as much room
 pub record Advanced (m : Interpreter) (h : Host) (m' : Interpreter) (h' : Host) : Type 0 where
-  pub sound : sound m' ≡ true
   pub kept : Kept m m'
   pub does : (vs : List ℕ) → step (program m) (numbers m) (fed (state_of m) h.waits vs) ≡ fed (state_of m') h'.waits (vs ++ next_text (program m) (state_of m))
   pub writes : h'.written ≡ h.written ++ next_text (program m) (state_of m)

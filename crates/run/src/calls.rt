@@ -4,7 +4,7 @@ ghost use Rattle.format.specs.Search.{when};
 ghost use Rattle.bytecode.specs.declared.instruction.Instruction.TheVariants.{Ireturn, Return, Invokevirtual};
 ghost use Rattle.machine.specs.declared.stop.Stop.TheVariants.{StackFull};
 ghost use Rattle.machine.specs.Go.{cells_used, callee_need};
-ghost use Rattle.run.specs.Sound.{program, numbers, cells, state_of, sound, stands};
+ghost use Rattle.run.specs.Standing.{program, numbers, cells, state_of, stands};
 ghost use Rattle.run.specs.Done.{Done};
 
 use crate::interpreter::Interpreter;
@@ -15,7 +15,6 @@ use machine::stop::{End, Stop};
 impl<'f, 'p, 's> Interpreter<'f, 'p, 's> {
     /// Whether the frame of a called method fits above the running one, from which its parameters are taken.
     fn fits(&self, index: u8) -> bool
-        requires sound { sound self.now ≡ true }
         requires here { stands self.now ≡ Some (Invokevirtual index) }
         ensures { result ≡ nat_le (callee_need (program self.now) (numbers self.now) (state_of self.now) index) (cells_used (cells self.now)) }
     {
@@ -26,7 +25,6 @@ impl<'f, 'p, 's> Interpreter<'f, 'p, 's> {
 
     /// INVOKEVIRTUAL: a frame of the method called, or why it cannot be laid.
     pub(crate) fn call(&mut self, index: u8) -> Option<Stop>
-        requires sound { sound self.old ≡ true }
         requires here { stands self.old ≡ Some (Invokevirtual index) }
         ensures stop { result ≡ when (nat_lt (cells_used (cells self.old)) (callee_need (program self.old) (numbers self.old) (state_of self.old) index)) StackFull }
         ensures state { MatchOption result (Done self.old self.new) (λ _. self.new ≡ self.old) }
@@ -40,7 +38,6 @@ impl<'f, 'p, 's> Interpreter<'f, 'p, 's> {
 
     /// A frame of the method called.
     fn enter(&mut self, index: u8)
-        requires sound { sound self.old ≡ true }
         requires here { stands self.old ≡ Some (Invokevirtual index) }
         requires fits { nat_le (callee_need (program self.old) (numbers self.old) (state_of self.old) index) (cells_used (cells self.old)) ≡ true }
         ensures { Done self.old self.new }
@@ -52,7 +49,6 @@ impl<'f, 'p, 's> Interpreter<'f, 'p, 's> {
 
     /// RETURN: back to the caller, or the run's end where main returns.
     pub(crate) fn give_back(&mut self)
-        requires sound { sound self.old ≡ true }
         requires here { stands self.old ≡ Some Return }
         ensures { Done self.old self.new }
     {
@@ -65,7 +61,6 @@ impl<'f, 'p, 's> Interpreter<'f, 'p, 's> {
 
     /// IRETURN: back to the caller with the operand on top, or the run's end with it where main returns.
     pub(crate) fn give_back_value(&mut self)
-        requires sound { sound self.old ≡ true }
         requires here { stands self.old ≡ Some Ireturn }
         ensures { Done self.old self.new }
     {

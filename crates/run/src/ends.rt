@@ -1,16 +1,16 @@
 //! The ends of a run by an instruction of their own, and the output mode.
 ghost use Rattle.std.specs.Prelude.{◌≡◌, true, Some};
 ghost use Rattle.bytecode.specs.declared.instruction.Instruction.TheVariants.{Err, Setout, Halt};
-ghost use Rattle.run.specs.Sound.{sound, stands};
+ghost use Rattle.run.specs.Standing.{stands};
 ghost use Rattle.run.specs.Done.{Done};
 
 use crate::interpreter::Interpreter;
 use machine::stop::End;
+use output::mode::Mode;
 
 impl<'f, 'p, 's> Interpreter<'f, 'p, 's> {
     /// ERR: the run ends with the number of a message.
     pub(crate) fn fail(&mut self, index: u8)
-        requires sound { sound self.old ≡ true }
         requires here { stands self.old ≡ Some (Err index) }
         ensures { Done self.old self.new }
     {
@@ -19,7 +19,6 @@ impl<'f, 'p, 's> Interpreter<'f, 'p, 's> {
 
     /// HALT: the run ends.
     pub(crate) fn halt(&mut self)
-        requires sound { sound self.old ≡ true }
         requires here { stands self.old ≡ Some Halt }
         ensures { Done self.old self.new }
     {
@@ -28,11 +27,10 @@ impl<'f, 'p, 's> Interpreter<'f, 'p, 's> {
 
     /// SETOUT: another output mode.
     pub(crate) fn set_mode(&mut self, index: u8)
-        requires sound { sound self.old ≡ true }
         requires here { stands self.old ≡ Some (Setout index) }
         ensures { Done self.old self.new }
     {
-        self.mode = index;
+        self.mode = Mode::from(index);
         self.place += 2;
     }
 }

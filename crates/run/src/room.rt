@@ -1,19 +1,10 @@
 //! How many cells a frame needs.
 ghost use Rattle.std.specs.Prelude.{◌≡◌, ◌<◌, length};
 ghost use Rattle.format.specs.Layout.{entry};
-ghost use Rattle.verifier.specs.Numbering.{number};
 ghost use Rattle.machine.specs.Go.{frame_need};
 
 use format::layout::{entry_place, method_entry};
 use frames::HEAD;
-
-/// What the sheet says at `place`.
-fn entry_at(sheet: &[u16], place: usize) -> u16
-    requires { place < length sheet.now }
-    ensures { result ≡ number sheet.now place }
-{
-    sheet[place]
-}
 
 /// Where a frame of method `k` ends at most, if it begins at `base`.
 pub(crate) fn frame_need(file: &[u8], sheet: &[u16], k: u8, base: usize) -> usize
@@ -23,6 +14,6 @@ pub(crate) fn frame_need(file: &[u8], sheet: &[u16], k: u8, base: usize) -> usiz
 {
     let k = k as usize;
     let method = method_entry(file, k);
-    let peak = entry_at(sheet, entry_place(k));
+    let peak = sheet[entry_place(k)];
     base + HEAD + method.parameters as usize + method.locals as usize + peak as usize
 }

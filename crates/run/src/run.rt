@@ -1,13 +1,23 @@
 //! A run.
-ghost use Rattle.std.specs.Prelude.{◌≡◌, true};
-ghost use Rattle.run.specs.Sound.{sound};
-
 use crate::interpreter::Interpreter;
 
-/// A run of an admitted file. Where main's frame does not fit, it never begins.
+/// A run of an admitted file.
 #[derive(Drop)]
 pub struct Run<'f, 'p, 's> {
-    pub(crate) interpreter: Interpreter<'f, 'p, 's>,
-    pub(crate) begun: bool,
-    ghost sound: { (begun ≡ true → sound interpreter ≡ true) },
+    pub(crate) stage: Stage<'f, 'p, 's>,
+}
+
+/// Where a run is.
+#[derive(Drop)]
+pub(crate) enum Stage<'f, 'p, 's> {
+    Begun(Interpreter<'f, 'p, 's>),
+    Unbegun(Lent<'f, 'p, 's>),
+}
+
+/// What a run was lent on which main's frame does not fit, so that it never begins: it has no frame and is at no instruction.
+#[derive(Drop)]
+pub(crate) struct Lent<'f, 'p, 's> {
+    pub(crate) file: &'f [u8],
+    pub(crate) sheet: &'p [u16],
+    pub(crate) cells: &'s mut [u16],
 }

@@ -3,16 +3,17 @@ ghost use Rattle.std.specs.Prelude.{◌≡◌, true, false, length, Some, None};
 ghost use Rattle.verifier.specs.Numbering.{Admitted as IsAdmitted};
 ghost use Rattle.machine.specs.Go.{begins, start};
 ghost use Rattle.machine.specs.Machine.{State, main};
-ghost use Rattle.run.specs.Run.{file_of, sheet_of, size_of, stack_of, seen, HoldsFrames, Goes, Stays, KeepsLevel, Replays};
+ghost use Rattle.run.specs.Run.{file_of, sheet_of, cells_of_run, size_of, stack_of, seen, HoldsFrames, Goes, Stays, KeepsLevel, Replays};
 ghost use Rattle.run.specs.Step.{host_of};
 
 use crate::interpreter::Interpreter;
 use crate::room::frame_need;
-use crate::run::Run;
+use crate::run::{Lent, Run, Stage};
 use format::layout::method_entry;
 use frames::{Frames, MOST_CELLS};
 use host::Host;
 use machine::stop::Stop;
+use output::mode::Mode;
 use verifier::admit::Admitted;
 
 /// Whether main's frame fits on so many cells.
@@ -31,21 +32,21 @@ fn begun<'f, 'p, 's>(file: &'f [u8], sheet: &'p [u16], stack: &'s mut [u16]) -> 
     ensures file { file_of result ≡ file.now }
     ensures sheet { sheet_of result ≡ sheet.now }
     ensures size { size_of result ≡ length stack.old }
-    ensures lent { result.interpreter.frames.cells.ghost_name ≡ stack.entry.ghost_name }
+    ensures lent { (cells_of_run result).ghost_name ≡ stack.entry.ghost_name }
     ensures frames { HoldsFrames result }
     ensures levels { KeepsLevel result }
     ensures replay { Replays result }
 {
     let place = method_entry(file, 0).code as usize;
+    let interpreter = Interpreter {
+        frames: Frames::open(file, stack),
+        sheet,
+        place,
+        mode: Mode::Pattern,
+        ended: None,
+    };
     Run {
-        interpreter: Interpreter {
-            frames: Frames::open(file, stack),
-            sheet,
-            place,
-            mode: 0,
-            ended: None,
-        },
-        begun: true,
+        stage: Stage::Begun(interpreter),
     }
 }
 
@@ -56,20 +57,18 @@ fn unbegun<'f, 'p, 's>(file: &'f [u8], sheet: &'p [u16], stack: &'s mut [u16]) -
     ensures file { file_of result ≡ file.now }
     ensures sheet { sheet_of result ≡ sheet.now }
     ensures cells { stack_of result ≡ stack.old }
-    ensures lent { result.interpreter.frames.cells.ghost_name ≡ stack.entry.ghost_name }
+    ensures lent { (cells_of_run result).ghost_name ≡ stack.entry.ghost_name }
     ensures frames { HoldsFrames result }
     ensures levels { KeepsLevel result }
     ensures replay { Replays result }
 {
+    let lent = Lent {
+        file,
+        sheet,
+        cells: stack,
+    };
     Run {
-        interpreter: Interpreter {
-            frames: Frames::none(file, stack),
-            sheet,
-            place: 0,
-            mode: 0,
-            ended: None,
-        },
-        begun: false,
+        stage: Stage::Unbegun(lent),
     }
 }
 
@@ -81,7 +80,7 @@ impl<'f, 'p, 's> Run<'f, 'p, 's> {
         ensures file { file_of result ≡ admitted.entry.file.now }
         ensures sheet { sheet_of result ≡ admitted.entry.sheet.now }
         ensures size { size_of result ≡ length stack.old }
-        ensures lent { result.interpreter.frames.cells.ghost_name ≡ stack.entry.ghost_name }
+        ensures lent { (cells_of_run result).ghost_name ≡ stack.entry.ghost_name }
         ensures frames { HoldsFrames result }
         ensures untouched { begins admitted.entry.file.now admitted.entry.sheet.now (length stack.old) ≡ false → stack_of result ≡ stack.old }
         ensures levels { KeepsLevel result }
@@ -95,6 +94,7 @@ impl<'f, 'p, 's> Run<'f, 'p, 's> {
     }
 
     /// Does instructions until something stops it, at most as many as the fuel, and answers the stop and how many it did.
+    #[tactic(auto, using(crate::proofs::Holding::holds))]
     pub fn go<H: Host>(&mut self, host: &mut H, fuel: u32) -> (Stop, u32)
         ensures goes { Goes self.old (host_of (H.waiting host.old) (H.written host.old) (H.space host.old)) fuel self.new (host_of (H.waiting host.new) (H.written host.new) (H.space host.new)) result }
         ensures stays { Stays self.old self.new }
@@ -102,24 +102,10 @@ impl<'f, 'p, 's> Run<'f, 'p, 's> {
         ensures still { result.1 ≡ 0 → stack_of self.new ≡ stack_of self.old }
         ensures kept { H.kept host.old host.new }
     {
-        if self.begun {
-            return self.go_begun(host, fuel);
+        match &mut self.stage {
+            Stage::Begun(interpreter) => interpreter.go(host, fuel),
+            Stage::Unbegun(_) if fuel == 0 => (Stop::Spent, 0),
+            Stage::Unbegun(_) => (Stop::StackFull, 0),
         }
-        if fuel == 0 {
-            return (Stop::Spent, 0);
-        }
-        (Stop::StackFull, 0)
-    }
-
-    /// The same, of a run that began.
-    fn go_begun<H: Host>(&mut self, host: &mut H, fuel: u32) -> (Stop, u32)
-        requires begun { self.old.begun ≡ true }
-        ensures goes { Goes self.old (host_of (H.waiting host.old) (H.written host.old) (H.space host.old)) fuel self.new (host_of (H.waiting host.new) (H.written host.new) (H.space host.new)) result }
-        ensures stays { Stays self.old self.new }
-        ensures frames { HoldsFrames self.new }
-        ensures still { result.1 ≡ 0 → stack_of self.new ≡ stack_of self.old }
-        ensures kept { H.kept host.old host.new }
-    {
-        self.interpreter.go(host, fuel)
     }
 }

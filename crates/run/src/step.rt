@@ -1,6 +1,5 @@
 //! One turn: the next instruction, or what hinders it.
 ghost use Rattle.std.specs.Prelude.{◌≡◌, true, false, is_some};
-ghost use Rattle.run.specs.Sound.{sound};
 ghost use Rattle.run.specs.Step.{host_of, hindered, Turn};
 
 use crate::interpreter::Interpreter;
@@ -10,7 +9,6 @@ use machine::stop::Stop;
 impl<'f, 'p, 's> Interpreter<'f, 'p, 's> {
     /// Does the next instruction, or answers what hinders it and changes nothing.
     pub(crate) fn step<H: Host>(&mut self, host: &mut H) -> Option<Stop>
-        requires sound { sound self.old ≡ true }
         requires runs { is_some self.old.ended ≡ false }
         ensures kept { H.kept host.old host.new }
         ensures stop { result ≡ hindered self.old (host_of (H.waiting host.old) (H.written host.old) (H.space host.old)) }

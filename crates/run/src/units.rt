@@ -3,7 +3,7 @@ ghost use Rattle.std.specs.Prelude.{◌≡◌, true, false, is_some, Some};
 ghost use Rattle.bytecode.specs.declared.instruction.Instruction.TheVariants.{In, Out};
 ghost use Rattle.output.specs.Units.{units_of};
 ghost use Rattle.machine.specs.Go.{next_text};
-ghost use Rattle.run.specs.Sound.{program, state_of, sound, stands};
+ghost use Rattle.run.specs.Standing.{program, state_of, stands};
 ghost use Rattle.run.specs.Done.{Took, Wrote};
 ghost use Rattle.run.specs.Step.{host_of, hindered, Turn};
 
@@ -11,12 +11,10 @@ use crate::interpreter::Interpreter;
 use host::Host;
 use machine::stop::Stop;
 use output::Text;
-use output::modes::text;
 
 impl<'f, 'p, 's> Interpreter<'f, 'p, 's> {
     /// IN: the first waiting unit becomes an operand, if one waits.
     pub(crate) fn take_unit<H: Host>(&mut self, host: &mut H) -> Option<Stop>
-        requires sound { sound self.old ≡ true }
         requires here { stands self.old ≡ Some In }
         requires runs { is_some self.old.ended ≡ false }
         ensures kept { H.kept host.old host.new }
@@ -32,7 +30,6 @@ impl<'f, 'p, 's> Interpreter<'f, 'p, 's> {
 
     /// The unit that IN took, as an operand.
     fn push_unit(&mut self, unit: u16)
-        requires sound { sound self.old ≡ true }
         requires here { stands self.old ≡ Some In }
         ensures { Took unit self.old self.new }
     {
@@ -42,7 +39,6 @@ impl<'f, 'p, 's> Interpreter<'f, 'p, 's> {
 
     /// OUT: the units of the operand on top are put to the host, if it has room for all of them.
     pub(crate) fn put_units<H: Host>(&mut self, host: &mut H) -> Option<Stop>
-        requires sound { sound self.old ≡ true }
         requires here { stands self.old ≡ Some Out }
         requires runs { is_some self.old.ended ≡ false }
         ensures kept { H.kept host.old host.new }
@@ -60,16 +56,14 @@ impl<'f, 'p, 's> Interpreter<'f, 'p, 's> {
 
     /// The units of the operand on top, as OUT writes them.
     fn next_text(&self) -> Text
-        requires sound { sound self.now ≡ true }
         requires here { stands self.now ≡ Some Out }
         ensures { units_of result ≡ next_text (program self.now) (state_of self.now) }
     {
-        text(self.mode, self.frames.last())
+        self.mode.text(self.frames.last())
     }
 
     /// Takes the operand off that OUT writes.
     fn drop_written(&mut self)
-        requires sound { sound self.old ≡ true }
         requires here { stands self.old ≡ Some Out }
         ensures { Wrote (next_text (program self.old) (state_of self.old)) self.old self.new }
     {

@@ -1,20 +1,25 @@
-use Rattle.std.proofs.Common.{◌+◌, ◌<◌, get_or, drop, sym, refl, ap, arith}
+use Rattle.std.proofs.Common.{refl, drop, sym, ap, arith}
 use Rattle.machine.specs.Machine.{with_operands}
-use Rattle.frames.specs.Frames.{running, waiting, variables_of}
-use Rattle.frames.proofs.Parts.{laid_of, some_operand}
+use Rattle.frames.specs.Frames.{running, waiting}
+use Rattle.frames.proofs.Parts.{some_operand}
 use Rattle.frames.proofs.Writes.{popped}
 use Rattle.frames.proofs.Frames.drop_last.Goals as goal
 
-pub returns : goal.returns
-unfolding running waiting
-returns c =
+pub overflow_sub-self : goal.overflow_sub-self
+overflow_sub-self c = let o = some_operand c.args.self.now c.requires.some in omega arith
+
+pub invariant_of-self : goal.invariant_of-self
+invariant_of-self c =
     let s = c.args.self.now in
-    let h = c.requires.laid in
-    let some : s.base + 3 + variables_of s.file.now (get_or s.cells.now s.base 0) < s.top = some_operand s h c.requires.some in
-    let p = popped s.file.now s.cells.now s.base s.top some h.inside in
-    record {
-      laid = laid_of _ (omega arith) (omega (arith, h.inside)) h.below (omega (arith, h.used));
-      kept = record { lent = refl; same_size = refl; same_file = refl };
-      running = sym (ap (λ r. with_operands r (drop 1 r.operands)) p);
-      waiting = refl;
-    }
+    let o = some_operand s c.requires.some in
+    record { whole = omega arith; inside = omega (arith, s.inside); used = omega (arith, s.used); below = s.below }
+
+pub returns-clause-running : goal.returns-clause-running
+unfolding running
+returns-clause-running c =
+    let s = c.args.self.now in
+    sym (ap (λ r. with_operands r (drop 1 r.operands)) (popped s.file.now s.cells.now s.base s.top (some_operand s c.requires.some) s.inside))
+
+pub returns-clause-waiting : goal.returns-clause-waiting
+unfolding waiting
+returns-clause-waiting c = refl

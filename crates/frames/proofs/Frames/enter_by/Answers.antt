@@ -1,38 +1,67 @@
-use Rattle.std.proofs.Common.{◌+◌, ◌≤◌, length, get_or, refl, ap, arith, rules}
-use Rattle.frames.specs.Frames.{running, waiting, variables_of}
-use Rattle.frames.proofs.Parts.{laid_of, operands_below, few_callers, room_above}
+use Rattle.std.proofs.Common.{◌+◌, ◌≤◌, get_or, ap, arith, rules}
+use Rattle.format.specs.declared.layout.MethodEntry.{MethodEntry}
+use Rattle.frames.specs.Frames.{running, waiting}
+use Rattle.frames.specs.Laid.{variables_of}
+use Rattle.frames.proofs.Parts.{operands_below, few_callers, room_above}
 use Rattle.frames.proofs.NewFrame.{entered_running, entered_waiting, entered_below, entered_whole}
 use Rattle.frames.proofs.Frames.enter_by.Goals as goal
 
+pub overflow_sub-base : goal.overflow_sub-base
+overflow_sub-base c =
+    let o = operands_below c.args.self.now in
+    let p = ap (λ (e : MethodEntry). e.parameters) c.requires.entry in
+    omega (arith, c.requires.some)
+
+pub lay-requires : goal.lay-requires
+lay-requires c =
+    let s = c.args.self.now in
+    let e = c.args.entry in
+    let o = operands_below s in
+    let p = ap (λ (e : MethodEntry). e.parameters) c.requires.entry in
+    let r = room_above s e.locals _ (ap (λ (e : MethodEntry). e.locals) c.requires.entry) c.requires.room in
+    let few : e.parameters ≤ s.top = omega (arith, c.requires.some) in
+    omega arith
+
 pub overflow_add-self-3 : goal.overflow_add-self-3
 overflow_add-self-3 c =
-    let d = few_callers c.args.self.now c.requires.laid in
+    let d = few_callers c.args.self.now in
     search rules
 
-pub returns : goal.returns
-unfolding running waiting
-returns c =
+pub invariant_of-self : goal.invariant_of-self
+invariant_of-self c =
     let s = c.args.self.now in
-    let h = c.requires.laid in
-    let f = s.file.now in
-    let d = s.cells.now in
-    let l = c.lay.new.cells in
     let e = c.args.entry in
-    let m = c.args.method in
-    let p = c.args.return_place in
-    let ps = ap (λ x. x.parameters) c.requires.entry in
-    let ls = ap (λ x. x.locals) c.requires.entry in
-    let o = operands_below s h in
-    let some : s.base + 3 + variables_of f (get_or d s.base 0) + e.parameters ≤ s.top = omega (arith, c.requires.some) in
+    let ps = ap (λ (e : MethodEntry). e.parameters) c.requires.entry in
+    let ls = ap (λ (e : MethodEntry). e.locals) c.requires.entry in
+    let o = operands_below s in
+    let some : s.base + 3 + variables_of s.file.now (get_or s.cells.now s.base 0) + e.parameters ≤ s.top = omega (arith, c.requires.some) in
     let n = c.lay.auto.cells in
-    let room = room_above s e.locals _ h ls c.requires.room in
-    let ends : s.top + (3 + e.locals) ≤ length l = omega arith in
+    let room = room_above s e.locals _ ls c.requires.room in
     record {
-      laid = laid_of _ (entered_whole f d l s.depth s.base s.top e.parameters e.locals m p some h.inside ps ls c.lay.ensures)
-          ends
-          (entered_below f d l s.depth s.base s.top e.parameters e.locals m p some h.inside ps ls c.lay.ensures h.below)
-          room.1;
-      kept = record { lent = refl; same_size = n; same_file = refl };
-      running = entered_running f d l s.depth s.base s.top e.parameters e.locals m p some h.inside ps ls c.lay.ensures;
-      waiting = entered_waiting f d l s.depth s.base s.top e.parameters e.locals m p some h.inside ps ls c.lay.ensures;
+      whole = entered_whole s.file.now s.cells.now c.lay.new.cells s.depth s.base s.top e.parameters e.locals c.args.method c.args.return_place some s.inside ps ls c.lay.ensures;
+      inside = omega arith;
+      used = room.1;
+      below = entered_below s.file.now s.cells.now c.lay.new.cells s.depth s.base s.top e.parameters e.locals c.args.method c.args.return_place some s.inside ps ls c.lay.ensures s.below;
     }
+
+pub returns-clause-running : goal.returns-clause-running
+unfolding running
+returns-clause-running c =
+    let s = c.args.self.now in
+    let e = c.args.entry in
+    let ps = ap (λ (e : MethodEntry). e.parameters) c.requires.entry in
+    let ls = ap (λ (e : MethodEntry). e.locals) c.requires.entry in
+    let o = operands_below s in
+    entered_running s.file.now s.cells.now c.lay.new.cells s.depth s.base s.top e.parameters e.locals c.args.method c.args.return_place
+    (omega (arith, c.requires.some)) s.inside ps ls c.lay.ensures
+
+pub returns-clause-waiting : goal.returns-clause-waiting
+unfolding waiting running
+returns-clause-waiting c =
+    let s = c.args.self.now in
+    let e = c.args.entry in
+    let ps = ap (λ (e : MethodEntry). e.parameters) c.requires.entry in
+    let ls = ap (λ (e : MethodEntry). e.locals) c.requires.entry in
+    let o = operands_below s in
+    entered_waiting s.file.now s.cells.now c.lay.new.cells s.depth s.base s.top e.parameters e.locals c.args.method c.args.return_place
+    (omega (arith, c.requires.some)) s.inside ps ls c.lay.ensures

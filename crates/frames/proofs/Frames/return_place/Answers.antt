@@ -7,4 +7,4 @@ pub returns : goal.returns
 unfolding running
 returns c =
     let s = c.args.self.now in
-    sym (get_or-take s.top s.cells.now (s.base + 1) 0 (omega (arith, c.requires.whole)))
+    sym (get_or-take s.top s.cells.now (s.base + 1) 0 (omega (arith, s.whole)))

@@ -1,17 +1,17 @@
-use Rattle.std.proofs.Common.{◌<◌, get_or, refl, arith}
-use Rattle.frames.specs.Frames.{running, variables_of}
+use Rattle.std.proofs.Common.{arith}
+use Rattle.frames.specs.Frames.{running}
 use Rattle.frames.proofs.Parts.{has_variable}
 use Rattle.frames.proofs.Writes.{loaded}
 use Rattle.frames.proofs.Frames.variable_cell.Goals as goal
 
-pub returns : goal.returns
-unfolding running
-returns c =
+pub returns-clause-inside : goal.returns-clause-inside
+returns-clause-inside c =
     let s = c.args.self.now in
-    let h = c.requires.laid in
-    let few : c.args.index < variables_of s.file.now (get_or s.cells.now s.base 0) = has_variable s c.args.index h c.requires.inside in
-    record {
-      place = refl;
-      inside = omega (arith, h.whole);
-      value = loaded s.file.now s.cells.now s.base s.top h.whole c.args.index few;
-    }
+    let few = has_variable s c.args.index c.requires.inside in
+    omega (arith, s.whole, s.inside)
+
+pub returns-clause-value : goal.returns-clause-value
+unfolding running
+returns-clause-value c =
+    let s = c.args.self.now in
+    loaded s.file.now s.cells.now s.base s.top s.whole c.args.index (has_variable s c.args.index c.requires.inside)

@@ -6,15 +6,15 @@ use Rattle.run.proofs.Ready.{ready}
 use Rattle.bytecode.specs.declared.instruction.Instruction.TheVariants.{Err}
 use Rattle.frames.specs.Frames.{kept_refl}
 use Rattle.machine.specs.Machine.{fed, end, with_end}
-use Rattle.run.specs.Sound.{program, state_of}
-use Rattle.run.proofs.Steps.{frames_laid, code, message_there, finished}
+use Rattle.run.specs.Standing.{program, state_of}
+use Rattle.run.proofs.Steps.{code, message_there, finished}
 use Rattle.run.proofs.interpreter.Interpreter.fail.Goals as goal
 
 pub returns : goal.returns
 returns c =
     let m = c.args.self.now in
     let i = c.args.index in
-    let inside : i < messages (program m) = subst (λ (j : ℕ). j < messages (program m)) (code m c.requires.sound (Err i) c.requires.here).arguments (message_there m c.requires.sound (Err i) c.requires.here refl) in
-    finished m c.requires.sound (Err i) c.requires.here refl (with_end (state_of m) (ending.Error i))
+    let inside : i < messages (program m) = subst (λ (j : ℕ). j < messages (program m)) (code m (Err i) c.requires.here).arguments (message_there m (Err i) c.requires.here refl) in
+    (finished m (Err i) c.requires.here refl (with_end (state_of m) (ending.Error i))
     (λ us vs. ap (λ (b : Bool). cond b (end (program m) (fed (state_of m) us vs) (ending.Error i)) None) (lt-ltb i (messages (program m)) inside))
-    _ (kept_refl m.frames) refl (frames_laid m c.requires.sound) refl (ready m c.requires.sound).fit
+    m.frames m.place m.mode _ (kept_refl m.frames) refl (ready m).fit).does _

@@ -1,16 +1,12 @@
 use Rattle.std.proofs.Common.{arith}
 use Rattle.run.proofs.Calling.{enough_below, peak_there, top_low}
-use Rattle.run.proofs.Steps.{frames_laid}
 use Rattle.run.proofs.interpreter.Interpreter.fits.Goals as goal
 
-pub top-requires : goal.top-requires
-top-requires c = record { laid = frames_laid c.args.self.now c.requires.sound }
-
 pub overflow_sub-base : goal.overflow_sub-base
-overflow_sub-base c = let l = enough_below c.args.self.now c.requires.sound c.args.index c.requires.here in rw (c.method_entry-parameters.ensures, c.top.ensures) l
+overflow_sub-base c = let l = enough_below c.args.self.now c.args.index c.requires.here in rw (c.method_entry-parameters.ensures, c.top.ensures) l
 
 pub frame_need-requires : goal.frame_need-requires
 frame_need-requires c =
     let m = c.args.self.now in
-    let l = top_low m c.requires.sound c.args.index c.requires.here in
-    record { inside = peak_there m c.requires.sound c.args.index c.requires.here; low = omega (arith, l, c.top.ensures) }
+    let l = top_low m c.args.index c.requires.here in
+    record { inside = peak_there m c.args.index c.requires.here; low = omega (arith, l, c.top.ensures) }

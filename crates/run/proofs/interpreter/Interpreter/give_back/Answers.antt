@@ -3,20 +3,25 @@ use Rattle.machine.specs.declared.stop.End.TheVariants as ending
 use Rattle.bytecode.specs.declared.instruction.Instruction.TheVariants.{Return}
 use Rattle.frames.specs.Frames.{running, waiting}
 use Rattle.run.proofs.Calling.{ended_by, resumed}
-use Rattle.run.proofs.Steps.{frames_laid}
 use Rattle.run.proofs.interpreter.Interpreter.give_back.Goals as goal
 
-pub is_only-requires : goal.is_only-requires
-is_only-requires c = record { laid = frames_laid c.args.self.now c.requires.sound }
-
 pub returns-then-is_only : goal.returns-then-is_only
-returns-then-is_only c = ended_by c.args.self.now c.requires.sound Return c.requires.here refl ending.Plain [] (λ us vs. refl) (sym c.if-is_only.ensures)
+returns-then-is_only c =
+    (ended_by c.args.self.now Return c.requires.here refl ending.Plain [] (λ us vs. refl) (sym c.if-is_only.ensures)).does _
 
 pub leave-requires : goal.leave-requires
-leave-requires c = record { laid = frames_laid c.args.self.now c.requires.sound; callers = sym c.if-is_only.ensures }
+leave-requires c = record { callers = sym c.if-is_only.ensures }
+
+pub invariant_of-self-2 : goal.invariant_of-self-2
+invariant_of-self-2 c =
+    let u = c.leave.ensures in
+    record {
+      sound = (resumed c.args.self.now Return c.requires.here refl ending.Plain [] (λ us vs. refl)
+          (running c.leave.new.self) (waiting c.leave.new.self) u.frames c.leave.new.self u.kept refl refl c.leave.result u.place).holds;
+    }
 
 pub returns : goal.returns
 returns c =
     let u = c.leave.ensures in
-    resumed c.args.self.now c.requires.sound Return c.requires.here refl ending.Plain [] (λ us vs. refl)
-    (running c.leave.new.self) (waiting c.leave.new.self) u.frames c.leave.new.self u.kept u.laid refl refl c.leave.result u.place
+    (resumed c.args.self.now Return c.requires.here refl ending.Plain [] (λ us vs. refl)
+    (running c.leave.new.self) (waiting c.leave.new.self) u.frames c.leave.new.self u.kept refl refl c.leave.result u.place).does _

@@ -4,25 +4,22 @@ use Rattle.machine.specs.Go.{frames_size, cells_used}
 use Rattle.bytecode.specs.declared.instruction.Instruction.TheVariants.{Ireturn}
 use Rattle.frames.specs.Frames.{running, waiting, kept_trans}
 use Rattle.machine.specs.Machine.{execute, fed}
-use Rattle.run.specs.Sound.{program, state_of}
+use Rattle.run.specs.Standing.{program, state_of}
 use Rattle.run.proofs.Calling.{ended_by, caller_free, resumed}
-use Rattle.run.proofs.Steps.{frames_laid, taken}
+use Rattle.run.proofs.Steps.{taken}
 use Rattle.run.proofs.interpreter.Interpreter.give_back_value.Goals as goal
 
 pub last-value-requires : goal.last-value-requires
-last-value-requires c = record { laid = frames_laid c.args.self.now c.requires.sound; some = taken c.args.self.now c.requires.sound Ireturn c.requires.here }
-
-pub is_only-requires : goal.is_only-requires
-is_only-requires c = record { laid = frames_laid c.args.self.now c.requires.sound }
+last-value-requires c = record { some = taken c.args.self.now Ireturn c.requires.here }
 
 pub returns-then-is_only : goal.returns-then-is_only
 returns-then-is_only c =
     let m = c.args.self.now in
     let v = c.last-value.result in
-    ended_by m c.requires.sound Ireturn c.requires.here refl (ending.Value v) (v ∷ []) (λ us vs. ap (execute (program m) (fed (state_of m) us vs) Ireturn) c.last-value.ensures) (sym c.if-is_only.ensures)
+    (ended_by m Ireturn c.requires.here refl (ending.Value v) (v ∷ []) (λ us vs. ap (execute (program m) (fed (state_of m) us vs) Ireturn) c.last-value.ensures) (sym c.if-is_only.ensures)).does _
 
 pub leave-requires : goal.leave-requires
-leave-requires c = record { laid = frames_laid c.args.self.now c.requires.sound; callers = sym c.if-is_only.ensures }
+leave-requires c = record { callers = sym c.if-is_only.ensures }
 
 pub push-requires : goal.push-requires
 push-requires c =
@@ -31,10 +28,20 @@ push-requires c =
     let u = c.leave.ensures in
     let y = c.leave.new.self in
     record {
-      laid = u.laid;
       room = subst (λ (n : ℕ). frames_size (running y ∷ waiting y) < cells_used n) (sym u.kept.same_size)
-          (caller_free m c.requires.sound Ireturn c.requires.here refl (ending.Value v) (v ∷ []) (λ us vs. ap (execute (program m) (fed (state_of m) us vs) Ireturn) c.last-value.ensures)
+          (caller_free m Ireturn c.requires.here refl (ending.Value v) (v ∷ []) (λ us vs. ap (execute (program m) (fed (state_of m) us vs) Ireturn) c.last-value.ensures)
           (running y) (waiting y) u.frames v refl);
+    }
+
+pub invariant_of-self-2 : goal.invariant_of-self-2
+invariant_of-self-2 c =
+    let m = c.args.self.now in
+    let v = c.last-value.result in
+    let u = c.leave.ensures in
+    let p = c.push.ensures in
+    record {
+      sound = (resumed m Ireturn c.requires.here refl (ending.Value v) (v ∷ []) (λ us vs. ap (execute (program m) (fed (state_of m) us vs) Ireturn) c.last-value.ensures)
+          (running c.leave.new.self) (waiting c.leave.new.self) u.frames c.push.new.self (kept_trans _ _ _ u.kept p.kept) p.running p.waiting c.leave.result u.place).holds;
     }
 
 pub returns : goal.returns
@@ -43,5 +50,5 @@ returns c =
     let v = c.last-value.result in
     let u = c.leave.ensures in
     let p = c.push.ensures in
-    resumed m c.requires.sound Ireturn c.requires.here refl (ending.Value v) (v ∷ []) (λ us vs. ap (execute (program m) (fed (state_of m) us vs) Ireturn) c.last-value.ensures)
-    (running c.leave.new.self) (waiting c.leave.new.self) u.frames c.push.new.self (kept_trans _ _ _ u.kept p.kept) p.laid p.running p.waiting c.leave.result u.place
+    (resumed m Ireturn c.requires.here refl (ending.Value v) (v ∷ []) (λ us vs. ap (execute (program m) (fed (state_of m) us vs) Ireturn) c.last-value.ensures)
+    (running c.leave.new.self) (waiting c.leave.new.self) u.frames c.push.new.self (kept_trans _ _ _ u.kept p.kept) p.running p.waiting c.leave.result u.place).does _

@@ -12,7 +12,7 @@ returns-in_default g c =
     let t = c.in_default.ensures in
     record {
       kept = t.kept;
-      stop = sym (in_hinders c.args.self.now c.requires.sound c.requires.here h ∙ ap (λ (us : List _). when (none_left us) NoUnit) t.waiting.0);
+      stop = sym (in_hinders c.args.self.now c.requires.here h ∙ ap (λ (us : List _). when (none_left us) NoUnit) t.waiting.0);
       turn = (refl, same_host (t.waiting.1 ∙ sym t.waiting.0) t.written t.space);
     }
 
@@ -22,6 +22,6 @@ returns g c =
     let t = c.in-Some.ensures in
     record {
       kept = t.kept;
-      stop = sym (in_hinders c.args.self.now c.requires.sound c.requires.here h ∙ ap (λ (us : List _). when (none_left us) NoUnit) t.waiting);
-      turn = took_turn c.args.self.now c.requires.sound c.requires.here c.requires.runs c.in-Some.unit c.push_unit.new.self c.push_unit.ensures _ _ t.waiting t.written t.space;
+      stop = sym (in_hinders c.args.self.now c.requires.here h ∙ ap (λ (us : List _). when (none_left us) NoUnit) t.waiting);
+      turn = took_turn c.args.self.now c.requires.here c.requires.runs c.in-Some.unit c.push_unit.new.self c.push_unit.ensures _ _ t.waiting t.written t.space;
     }
