@@ -8,4 +8,4 @@ mod keys;
 pub mod memory;
 pub mod on_label;
 pub mod on_recorder;
-mod row;
+mod telling;
