@@ -6,7 +6,7 @@ ghost use Rattle.host.specs.Recorder.{units_of};
 use host::label::Label;
 
 /// How many bytes of the keys are used: two a unit.
-const USED: usize = 512;
+pub(crate) const USED: usize = 512;
 
 /// The bytes of the keys that are used.
 #[tactic(auto, using(std::proofs::lemmas::List::take_min))]
