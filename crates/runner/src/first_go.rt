@@ -43,7 +43,7 @@ fn go_in_row(run: &mut Run<'_, '_, '_>, label: &mut Label<'_>) -> (Stop, u32)
     (stop, count as u32)
 }
 
-/// The first go on a label, carried out as a row.
+/// The first go on a label. It is a row of one go: `carry_out` states the laws of rows.
 #[tactic(auto, unfolding(crate::specs::Texts::go_once))]
 pub(crate) fn first_row(
     admitted: Admitted<'_, '_>,
