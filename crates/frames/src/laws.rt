@@ -2,8 +2,6 @@
 ghost use Rattle.frames.specs.Frames.{CellsAreFrames};
 
 /// The cells below the top are exactly those of the frames.
-pub fn cells_are_frames() -> u8
+pub fn cells_are_frames()
     ensures { CellsAreFrames }
-{
-    0
-}
+{}

@@ -4,7 +4,7 @@ use Rattle.std.specs.Int.{w16}
 use Rattle.std.proofs.Common.{to_z}
 use Rattle.std.specs.Fmt.{signed_decimal}
 use Rattle.refusals.specs.declared.Refusal.{Refusal}
-use Rattle.refusals.specs.Refusals.{number_of}
+use Rattle.refusals.specs.Refusals.{refused_text}
 use Rattle.format.specs.Layout.{be16, methods, constants, messages, entry, parameters, locals, code_address, code_size, debug_address, name_size, constant_address, message_due, message_size, program_address, program_size}
 use Rattle.format.specs.Parts.{piece}
 use Rattle.verifier.specs.Numbering.{number, numbering, with_peaks, check_refusal}
@@ -52,12 +52,9 @@ lines line (suc n) = lines line n ++ line n
 abbrev pub parts_text : List ℕ → List ℕ → List ℕ
 parts_text f s = program_line f ++ (lines (method_lines f s) (methods f) ++ (lines (constant_line f) (constants f) ++ lines (message_line f) (messages f)))
 
--- the two lines of a refusal, from its number, its place and what it means
-abbrev pub refusal_words : ℕ → ℕ → List ℕ → List ℕ
-refusal_words number place meaning = codes "refused " ++ (decimal number ++ (codes " " ++ (decimal place ++ (codes "\n" ++ (meaning ++ codes "\n")))))
-
+-- the two lines of a refusal: how it is told, and what it means
 abbrev pub refusal_text : Refusal → List ℕ
-refusal_text x = refusal_words (number_of x.rule) x.place (meaning x.rule)
+refusal_text x = refused_text x ++ (codes "\n" ++ (meaning x.rule ++ codes "\n"))
 
 -- what check says of the file, with memory enough: the sheet that it leaves, or its refusal
 abbrev pub listing : List ℕ → List ℕ

@@ -1,7 +1,7 @@
 //! The lines of a listing, each with its line feed.
 ghost use Rattle.std.specs.Prelude.{◌≡◌, ◌<◌, IfOk, string_bytes};
 ghost use Rattle.format.specs.Layout.{methods, constants, messages};
-ghost use Rattle.listing.specs.Lines.{program_line, name_text, variables_text, code_text, method_line, method_lines, constant_line, message_line, refusal_words, refusal_text};
+ghost use Rattle.listing.specs.Lines.{program_line, name_text, variables_text, code_text, method_line, method_lines, constant_line, message_line, refusal_text};
 
 use crate::meanings::meaning_of;
 use crate::program::Program;
@@ -107,26 +107,10 @@ impl Program<'_> {
     }
 }
 
-/// The two lines of a refusal, from its number, its place and what it means.
-fn refusal_words(
-    heap: Global,
-    number: u8,
-    place: usize,
-    meaning: &str,
-) -> Result<String, AllocError>
-    ensures { IfOk result (λ s. string_bytes s ≡ refusal_words number place meaning.now) }
-{
-    format!(in heap; "refused {number} {place}\n{meaning}\n")
-}
-
 /// The two lines of a refusal: its number and place, and what it means.
 pub(crate) fn refusal_text(heap: Global, refusal: Refusal) -> Result<String, AllocError>
     ensures { IfOk result (λ s. string_bytes s ≡ refusal_text refusal) }
 {
-    refusal_words(
-        heap,
-        refusal.rule.number(),
-        refusal.place,
-        meaning_of(refusal.rule),
-    )
+    let meaning = meaning_of(refusal.rule);
+    format!(in heap; "{refusal}\n{meaning}\n")
 }

@@ -3,3 +3,4 @@ pub mod Go
 pub mod Cells
 pub mod Rows
 pub mod Cases
+pub mod Words

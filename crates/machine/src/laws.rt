@@ -3,57 +3,41 @@
 ghost use Rattle.machine.specs.Rows.{KeepsLevel, Follows, RowsKeepLevel, NeverBegins, SameUnits, FirstUnits, Regroups, EarlyUnits};
 
 /// The operands of an admitted file's run are as many as its sheet says, and the run is never astray.
-pub fn keeps_level() -> u8
+pub fn keeps_level()
     ensures { KeepsLevel }
-{
-    0
-}
+{}
 
 /// A row is where the plain machine is after as many instructions as its counts add up to.
-pub fn rows_follow() -> u8
+pub fn rows_follow()
     ensures { Follows }
-{
-    0
-}
+{}
 
 /// A row keeps the sheet's numbers, inside a go too, and each instruction that it counts is done.
-pub fn rows_keep_level() -> u8
+pub fn rows_keep_level()
     ensures { RowsKeepLevel }
-{
-    0
-}
+{}
 
 /// A row whose main frame does not fit does nothing.
-pub fn rows_never_begin() -> u8
+pub fn rows_never_begin()
     ensures { NeverBegins }
-{
-    0
-}
+{}
 
 /// What a row does depends on its units and on its counts' sum alone.
-pub fn rows_same_units() -> u8
+pub fn rows_same_units()
     ensures { SameUnits }
-{
-    0
-}
+{}
 
 /// What a row writes begins what it writes with more units and more instructions.
-pub fn rows_first_units() -> u8
+pub fn rows_first_units()
     ensures { FirstUnits }
-{
-    0
-}
+{}
 
 /// Two goes do what one does with the fuel of both.
-pub fn goes_regroup() -> u8
+pub fn goes_regroup()
     ensures { Regroups }
-{
-    0
-}
+{}
 
 /// Units that arrive after a go may arrive before it.
-pub fn units_early() -> u8
+pub fn units_early()
     ensures { EarlyUnits }
-{
-    0
-}
+{}

@@ -1,4 +1,8 @@
 //! How a run ends, and why a go on it stops.
+ghost use Rattle.std.specs.Prelude.{Some};
+ghost use Rattle.machine.specs.Words.{end_words, stop_words};
+
+use std::fmt;
 
 /// How a run ends.
 #[derive(Clone, Copy, PartialEq, Eq, Debug)]
@@ -26,4 +30,35 @@ pub enum Stop {
     NoRoom,
     /// A frame does not fit on the stack.
     StackFull,
+}
+
+/// A value is told as signed.
+impl fmt::Display for End {
+    ghost output = { λ e. Some (end_words e) };
+
+    fn fmt<W: fmt::Write>(&self, f: &mut fmt::Formatter<W>) -> fmt::Result {
+        match self {
+            End::Plain => write!(f, "return"),
+            End::Value(bits) => {
+                let value = bits.cast_signed();
+                write!(f, "value {value}")
+            }
+            End::Halt => write!(f, "halt"),
+            End::Error(message) => write!(f, "error {message}"),
+        }
+    }
+}
+
+impl fmt::Display for Stop {
+    ghost output = { λ s. Some (stop_words s) };
+
+    fn fmt<W: fmt::Write>(&self, f: &mut fmt::Formatter<W>) -> fmt::Result {
+        match self {
+            Stop::Ended(end) => write!(f, "{end}"),
+            Stop::Spent => write!(f, "spent"),
+            Stop::NoUnit => write!(f, "waiting"),
+            Stop::NoRoom => write!(f, "full"),
+            Stop::StackFull => write!(f, "deep"),
+        }
+    }
 }

@@ -64,8 +64,6 @@ pub fn record_goes(
 }
 
 /// The units that are recorded are those that the plain machine writes.
-pub fn units_are_plain() -> u8
+pub fn units_are_plain()
     ensures { PlainUnits }
-{
-    0
-}
+{}

@@ -1,7 +1,8 @@
--- The number and the layer of each rule. Assumes nothing.
-use Rattle.std.specs.Prelude.{cond, ℕ, leb}
+-- The number and the layer of each rule, and what is told of a refusal. Assumes nothing.
+use Rattle.std.specs.Prelude.{cond, ℕ, List, ◌++◌, codes, decimal, leb}
 use Rattle.refusals.specs.declared.Rule.{Rule}
 use Rattle.refusals.specs.declared.Rule.TheVariants.{FileTooLong, HeaderCut, WrongMagic, WrongVersion, NoMethod, TablesCut, BadVariables, BadCode, BadDebugBlock, BadMessage, BadProgramName, MemoryShort, BadInstruction, BadIndex, BadTarget, MixedReturns, NoNumbering, BadNumber, BadPeak, LineFull, NoRoom}
+use Rattle.refusals.specs.declared.Refusal.{Refusal}
 use Rattle.refusals.specs.declared.Layer.{Layer}
 use Rattle.refusals.specs.declared.Layer.TheVariants.{File, Code, Host}
 
@@ -31,3 +32,7 @@ number_of NoRoom = 21
 -- the rules of the file are 1 to 11, those of the code 12 to 19, those of the host 20 and 21
 abbrev pub layer_of : Rule → Layer
 layer_of r = cond (leb (number_of r) 11) File (cond (leb (number_of r) 19) Code Host)
+
+-- a refusal is told by its rule's number and its place
+abbrev pub refused_text : Refusal → List ℕ
+refused_text x = codes "refused " ++ (decimal (number_of x.rule) ++ (codes " " ++ decimal x.place))

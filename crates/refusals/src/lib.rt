@@ -1,8 +1,11 @@
 //! What the engine says when it refuses: the rule that is broken, and where.
 #![tactic(auto)]
 
-ghost use Rattle.std.specs.Prelude.{◌≡◌};
-ghost use Rattle.refusals.specs.Refusals.{number_of, layer_of};
+ghost use Rattle.std.specs.Prelude.{◌≡◌, Some};
+ghost use Rattle.refusals.specs.Refusals.{number_of, layer_of, refused_text};
+
+use std::error::Error;
+use std::fmt;
 
 /// A rule that a file, a sheet or a host call can break. The cases stand in the order of their numbers, and each has its number.
 #[derive(Clone, Copy, PartialEq, Eq, Debug)]
@@ -78,10 +81,40 @@ impl Rule {
     pub fn layer(self) -> Layer
         ensures { result ≡ layer_of self }
     {
-        match self.number() {
-            0..=11 => Layer::File,
-            12..=19 => Layer::Code,
-            _ => Layer::Host,
+        match self {
+            Rule::FileTooLong
+            | Rule::HeaderCut
+            | Rule::WrongMagic
+            | Rule::WrongVersion
+            | Rule::NoMethod
+            | Rule::TablesCut
+            | Rule::BadVariables
+            | Rule::BadCode
+            | Rule::BadDebugBlock
+            | Rule::BadMessage
+            | Rule::BadProgramName => Layer::File,
+            Rule::MemoryShort
+            | Rule::BadInstruction
+            | Rule::BadIndex
+            | Rule::BadTarget
+            | Rule::MixedReturns
+            | Rule::NoNumbering
+            | Rule::BadNumber
+            | Rule::BadPeak => Layer::Code,
+            Rule::LineFull | Rule::NoRoom => Layer::Host,
         }
     }
 }
+
+/// The rule's number and the place, as they are told.
+impl fmt::Display for Refusal {
+    ghost output = { λ x. Some (refused_text x) };
+
+    fn fmt<W: fmt::Write>(&self, f: &mut fmt::Formatter<W>) -> fmt::Result {
+        let number = self.rule.number();
+        let place = self.place;
+        write!(f, "refused {number} {place}")
+    }
+}
+
+impl Error for Refusal {}

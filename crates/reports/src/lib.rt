@@ -2,7 +2,5 @@
 
 #![tactic(auto)]
 
-mod lines;
 pub mod report;
-mod units;
 mod words;

@@ -1,34 +1,43 @@
-//! Why a go stopped, in a word or two.
-ghost use Rattle.std.specs.Prelude.{◌≡◌, IfOk, string_bytes};
-ghost use Rattle.reports.specs.Words.{end_words, stop_words};
+//! Units and bytes in hexadecimal digits, each after a space.
+ghost use Rattle.std.specs.Prelude.{◌≡◌, ℕ, ◌++◌, List, IfOk, string_bytes, OnOk};
+ghost use Rattle.hexadecimal.specs.Hex.{byte_digits, unit_digits};
+ghost use Rattle.reports.specs.Words.{words};
 
-use machine::stop::{End, Stop};
 use std::alloc::{AllocError, Global};
 
-/// How a run ended. A value is shown as signed.
-fn end_words(heap: Global, end: End) -> Result<String, AllocError>
-    ensures { IfOk result (λ s. string_bytes s ≡ end_words end) }
-{
-    match end {
-        End::Plain => format!(in heap; "return"),
-        End::Value(bits) => {
-            let value = bits.cast_signed();
-            format!(in heap; "value {value}")
-        }
-        End::Halt => format!(in heap; "halt"),
-        End::Error(message) => format!(in heap; "error {message}"),
+/// A number that is written in as many hexadecimal digits as it has room for.
+pub(crate) trait Digits {
+    ghost digits: { Self → List ℕ };
+
+    /// Adds the number's digits.
+    fn push_digits(self, text: &mut String) -> Result<(), AllocError>
+        ensures { OnOk result (string_bytes text.new ≡ string_bytes text.old ++ digits self) };
+}
+
+impl Digits for u16 {
+    ghost digits = { unit_digits };
+
+    fn push_digits(self, text: &mut String) -> Result<(), AllocError> {
+        hexadecimal::push_unit(text, self)
     }
 }
 
-/// Why a go stopped.
-pub(crate) fn stop_words(heap: Global, stop: Stop) -> Result<String, AllocError>
-    ensures { IfOk result (λ s. string_bytes s ≡ stop_words stop) }
-{
-    match stop {
-        Stop::Ended(end) => end_words(heap, end),
-        Stop::Spent => format!(in heap; "spent"),
-        Stop::NoUnit => format!(in heap; "waiting"),
-        Stop::NoRoom => format!(in heap; "full"),
-        Stop::StackFull => format!(in heap; "deep"),
+impl Digits for u8 {
+    ghost digits = { byte_digits };
+
+    fn push_digits(self, text: &mut String) -> Result<(), AllocError> {
+        hexadecimal::push_byte(text, self)
     }
+}
+
+/// The numbers in their order.
+pub(crate) fn words<T: Digits + Copy>(heap: Global, numbers: &[T]) -> Result<String, AllocError>
+    ensures { IfOk result (λ s. string_bytes s ≡ words T.digits numbers.now) }
+{
+    let mut text = String::new(heap);
+    for number in numbers {
+        text.push(' ')?;
+        number.push_digits(&mut text)?;
+    }
+    Ok(text)
 }

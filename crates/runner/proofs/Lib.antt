@@ -1,4 +1,2 @@
+pub mod Counted
 pub mod Keying
-pub mod Went
-pub mod Checked
-pub mod Recording

@@ -1,7 +1,8 @@
 -- What the programs ejvm and record print of a file and its keys. Assumes nothing.
-use Rattle.std.specs.Prelude.{ℕ, cond, List, [], length, take, replicate, Some, None, codes, nat_lt}
+use Rattle.std.specs.Prelude.{◌≡◌, ℕ, cond, List, [], length, take, replicate, Some, None, codes, nat_lt}
 use Rattle.verifier.specs.Numbering.{numbering, with_peaks, check_refusal}
 use Rattle.host.specs.Recorder.{units_of, recorded}
+use Rattle.machine.specs.declared.stop.Stop.{Stop}
 use Rattle.machine.specs.Go.{Host, Outcome, start, outcome}
 use Rattle.reports.specs.Words.{run_text, record_text, refusal_text}
 
@@ -20,6 +21,12 @@ go_once f s cells fuel h = outcome f s cells fuel (start f s cells) h
 -- the programs lend 2,048 cells and a fuel of 10,000
 abbrev pub first_go : List ℕ → List ℕ → Host → Outcome
 first_go f s h = go_once f s 2048 10000 h
+
+-- a go answered this stop and this count, and left these units written, as the outcome says
+pub record Went (o : Outcome) (answer : Stop × ℕ) (units : List ℕ) : Type 0 where
+  pub stop : answer.0 ≡ o.stop
+  pub count : answer.1 ≡ o.counted
+  pub written : units ≡ o.host.written
 
 -- what is told of it on a label, and on a recorder whose 195 bytes were 0
 abbrev pub shown_text : Outcome → List ℕ

@@ -1,26 +1,20 @@
 //! The keys of a run.
-ghost use Rattle.std.specs.Prelude.{◌≡◌, ◌+◌, ◌*◌, ◌≤◌, [], length, take};
+ghost use Rattle.std.specs.Prelude.{◌≡◌, ◌≤◌, [], length, take};
 ghost use Rattle.host.specs.Label.{label_waiting, label_written, label_space, label_capacity};
 ghost use Rattle.host.specs.Recorder.{units_of};
 
 use host::label::Label;
 
 /// How many bytes of the keys are used: two a unit.
-const USED: usize = 512;
+pub(crate) const USED: usize = 512;
 
 /// The bytes of the keys that are used.
+#[tactic(auto, using(std::proofs::lemmas::List::take_min))]
 pub(crate) fn used(keys: &[u8]) -> &[u8]
     ensures bytes { result.now ≡ take 512 keys.now }
     ensures few { length result.now ≤ 512 }
 {
-    &keys[0..keys.len().min(USED)]
-}
-
-/// The unit of two bytes.
-fn unit(high: u8, low: u8) -> u16
-    ensures { result ≡ high * 256 + low }
-{
-    u16::from_be_bytes([high, low])
+    &keys[..USED.min(keys.len())]
 }
 
 /// Keys the byte pairs, one after the other, on a label whose line has a slot for each.
@@ -32,9 +26,8 @@ pub(crate) fn key_all(label: &mut Label<'_>, keys: &[u8])
     ensures written { label_written label.new ≡ label_written label.old }
     ensures space { label_space label.new ≡ label_space label.old }
 {
-    let mut rest = keys;
-    while let [high, low, tail @ ..] = rest {
-        let _ = label.key(unit(*high, *low));
-        rest = tail;
+    for pair in keys.as_chunks().0 {
+        // each has a slot, so none is refused
+        let _ = label.key(u16::from_be_bytes(*pair));
     }
 }

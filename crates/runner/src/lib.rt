@@ -8,4 +8,5 @@ mod keys;
 pub mod memory;
 pub mod on_label;
 pub mod on_recorder;
-mod row;
+pub mod program;
+mod telling;

@@ -7,12 +7,13 @@ use verifier::pending::Pending;
 pub(crate) const LARGEST: usize = 8_192;
 
 /// How many units can be keyed.
-const SLOTS: usize = 256;
+pub(crate) const SLOTS: usize = 256;
 
 /// How many cells a stack has.
-const CELLS: usize = 2_048;
+pub(crate) const CELLS: usize = 2_048;
 
 /// The memory of a check, the line of a label, and the cells of a stack. What they hold before a run does not matter.
+/// They are of fixed size, as a console's memory is.
 #[derive(Drop)]
 pub struct Memory {
     pub(crate) sheet: [u16; LARGEST],

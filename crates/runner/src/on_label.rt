@@ -1,51 +1,33 @@
 //! A file run on a label.
-ghost use Rattle.std.specs.Prelude.{◌≡◌, ◌≤◌, length, IfOk, string_bytes};
-ghost use Rattle.verifier.specs.Numbering.{Admitted as IsAdmitted};
-ghost use Rattle.runner.specs.Texts.{key_units, new_host, first_go, shown_text, checked_text, ejvm_text};
+ghost use Rattle.std.specs.Prelude.{◌≡◌, IfOk, string_bytes};
+ghost use Rattle.runner.specs.Texts.{shown_text, ejvm_text};
 
-use crate::checking::fill_sheet;
+use crate::first_go::first_row;
 use crate::keys::{key_all, used};
-use crate::memory::{LARGEST, Memory};
-use crate::row::first_row;
+use crate::memory::{CELLS, Memory, SLOTS};
+use crate::telling::{Telling, program_text};
 use host::label::Label;
-use reports::report::{refusal_report, run_report};
+use reports::report::run_report;
 use std::alloc::{AllocError, Global};
+use verifier::admit::Admitted;
 
-/// The report of the first go on a label with these keys.
-fn admitted_text(
-    heap: Global,
-    file: &[u8],
-    sheet: &[u16],
-    keys: &[u8],
-    line: &mut [u16],
-    cells: &mut [u16],
-) -> Result<String, AllocError>
-    requires admitted { IsAdmitted file.now sheet.now }
-    requires line { length line.old ≡ 256 }
-    requires cells { length cells.old ≡ 2048 }
-    ensures { IfOk result (λ s. string_bytes s ≡ shown_text (first_go file.now sheet.now (new_host (key_units keys.now)))) }
-{
-    let mut label = Label::new(line);
-    key_all(&mut label, used(keys));
-    let (stop, count) = first_row(file, sheet, cells, &mut label);
-    run_report(heap, stop, count, label.shown())
-}
+/// Tells what the label shows.
+struct OnLabel;
 
-/// The report of a file that is not too large.
-fn small_text(
-    heap: Global,
-    file: &[u8],
-    keys: &[u8],
-    memory: &mut Memory,
-) -> Result<String, AllocError>
-    requires { length file.now ≤ 8192 }
-    ensures { IfOk result (λ s. string_bytes s ≡ checked_text shown_text file.now keys.now) }
-{
-    let size = file.len();
-    let sheet = &mut memory.sheet[0..size];
-    match fill_sheet(file, sheet, &mut memory.pending[0..size]) {
-        Ok(()) => admitted_text(heap, file, sheet, keys, &mut memory.line, &mut memory.cells),
-        Err(refusal) => refusal_report(heap, refusal),
+impl Telling for OnLabel {
+    ghost told = { shown_text };
+
+    fn admitted_text(
+        heap: Global,
+        admitted: Admitted<'_, '_>,
+        keys: &[u8],
+        line: &mut [u16; SLOTS],
+        cells: &mut [u16; CELLS],
+    ) -> Result<String, AllocError> {
+        let mut label = Label::new(line);
+        key_all(&mut label, used(keys));
+        let (stop, count) = first_row(admitted, cells, &mut label);
+        run_report(heap, stop, count, label.shown())
     }
 }
 
@@ -58,8 +40,5 @@ pub fn run_text(
 ) -> Result<String, AllocError>
     ensures { IfOk result (λ s. string_bytes s ≡ ejvm_text file.now keys.now) }
 {
-    if file.len() > LARGEST {
-        return format!(in heap; "large\n");
-    }
-    small_text(heap, file, keys, memory)
+    program_text::<OnLabel>(heap, file, keys, memory)
 }

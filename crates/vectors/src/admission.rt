@@ -4,17 +4,14 @@ ghost use Rattle.verifier.specs.Numbering.{Admitted as IsAdmitted};
 
 use crate::on_label::{in_one_go, in_slices};
 use crate::on_recorder::recorded;
-use crate::stored::{Case, ENTRY, entry_numbers};
-use crate::words::refusal_words;
+use crate::stored::{Case, Entry, entry_numbers};
 use std::alloc::{AllocError, Global};
 use verifier::admit::{Admitted, admit};
 
 /// Puts the damages into a sheet in their order. One whose entry the sheet does not have is left out.
-pub(crate) fn damage(sheet: &mut [u16], damages: &[u8]) {
-    for stored in damages.chunks_exact(ENTRY) {
-        let Some((place, value)) = entry_numbers(stored) else {
-            break;
-        };
+pub(crate) fn damage(sheet: &mut [u16], damages: &[Entry]) {
+    for stored in damages {
+        let (place, value) = entry_numbers(*stored);
         if let Some(entry) = sheet.get_mut(place as usize) {
             *entry = value;
         }
@@ -43,6 +40,6 @@ pub(crate) fn admit_words(
 ) -> Result<String, AllocError> {
     match admit(case.file, sheet) {
         Ok(admitted) => runs_words(heap, admitted, case),
-        Err(refusal) => refusal_words(heap, refusal),
+        Err(refusal) => format!(in heap; "{refusal}"),
     }
 }

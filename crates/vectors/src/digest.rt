@@ -12,19 +12,15 @@ fn with_byte(digest: u32, byte: u8) -> u32 {
 
 /// The digest of bytes.
 pub(crate) fn digest_of_bytes(bytes: &[u8]) -> u32 {
-    let mut digest = BASIS;
-    for byte in bytes {
-        digest = with_byte(digest, *byte);
-    }
-    digest
+    bytes
+        .iter()
+        .fold(BASIS, |digest, byte| with_byte(digest, *byte))
 }
 
 /// The digest of a sheet: of its entries, each as two bytes, the high one first.
 pub(crate) fn digest_of_sheet(sheet: &[u16]) -> u32 {
-    let mut digest = BASIS;
-    for entry in sheet {
+    sheet.iter().fold(BASIS, |digest, entry| {
         let [high, low] = entry.to_be_bytes();
-        digest = with_byte(with_byte(digest, high), low);
-    }
-    digest
+        with_byte(with_byte(digest, high), low)
+    })
 }

@@ -1,9 +1,8 @@
 //! The line of a case.
 use crate::admission::{admit_words, damage};
 use crate::digest::digest_of_sheet;
-use crate::memory::{filled, pending};
+use crate::memory::{filled_units, pending};
 use crate::stored::Case;
-use crate::words::refusal_words;
 use refusals::Refusal;
 use std::alloc::{AllocError, Global};
 use verifier::check::check;
@@ -12,13 +11,13 @@ use verifier::check::check;
 fn check_words(heap: Global, answer: Result<(usize, u16), Refusal>) -> Result<String, AllocError> {
     match answer {
         Ok((places, peak)) => format!(in heap; "{places} {peak}"),
-        Err(refusal) => refusal_words(heap, refusal),
+        Err(refusal) => format!(in heap; "{refusal}"),
     }
 }
 
 /// Does all that is done with a case, and tells it.
 pub(crate) fn case_line(heap: Global, index: usize, case: &Case<'_>) -> Result<String, AllocError> {
-    let mut sheet = filled(heap, case.sheet)?;
+    let mut sheet = filled_units(heap, case.sheet)?;
     let mut pending = pending(heap, case.pending)?;
     let answer = check(case.file, sheet.as_mut_slice(), pending.as_mut_slice());
     let checked = check_words(heap, answer)?;

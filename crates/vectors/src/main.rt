@@ -39,14 +39,10 @@ fn print_lines(rt: &HostRuntime, bytes: &[u8]) -> anyhow::Result<()> {
     Ok(())
 }
 
-fn run(rt: &HostRuntime) -> anyhow::Result<()> {
-    let bytes = match env::args(rt)?.nth(1) {
-        Some(path) => fs::read(rt, path.as_str())?,
-        None => fs::read(rt, "cases.bin")?,
-    };
-    print_lines(rt, bytes.as_slice())
-}
-
 fn main(rt: HostRuntime) -> anyhow::Result<()> {
-    run(&rt)
+    let bytes = match env::args(&rt)?.nth(1) {
+        Some(path) => fs::read(&rt, path.as_str())?,
+        None => fs::read(&rt, "cases.bin")?,
+    };
+    print_lines(&rt, bytes.as_slice())
 }

@@ -2,26 +2,32 @@
 use std::alloc::{AllocError, Global};
 use verifier::pending::Pending;
 
-/// Entries of a sheet or cells of a stack: 3, and 7 more each.
-pub(crate) fn filled(heap: Global, count: usize) -> Result<Vec<u16>, AllocError> {
+/// Items of memory, the first one this, each later one made of the one before.
+fn filled<T: Copy, F: Fn(T) -> T>(
+    heap: Global,
+    count: usize,
+    first: T,
+    next: F,
+) -> Result<Vec<T>, AllocError>
+    requires { F.IsAlwaysCallable next }
+{
     let mut items = Vec::with_capacity(heap, count)?;
-    let mut item: u16 = 3;
+    let mut item = first;
     for _ in 0..count {
         items.push(item)?;
-        item = item.wrapping_add(7);
+        item = next(item);
     }
     Ok(items)
 }
 
+/// Entries of a sheet or cells of a stack: 3, and 7 more each.
+pub(crate) fn filled_units(heap: Global, count: usize) -> Result<Vec<u16>, AllocError> {
+    filled(heap, count, 3, |unit: u16| unit.wrapping_add(7))
+}
+
 /// Bytes of a recorder's memory, likewise.
 pub(crate) fn filled_bytes(heap: Global, count: usize) -> Result<Vec<u8>, AllocError> {
-    let mut bytes = Vec::with_capacity(heap, count)?;
-    let mut byte: u8 = 3;
-    for _ in 0..count {
-        bytes.push(byte)?;
-        byte = byte.wrapping_add(7);
-    }
-    Ok(bytes)
+    filled(heap, count, 3, |byte: u8| byte.wrapping_add(7))
 }
 
 /// Entries of the pending memory. What they are does not matter.

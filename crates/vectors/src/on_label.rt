@@ -2,8 +2,8 @@
 ghost use Rattle.std.specs.Prelude.{◌≡◌};
 ghost use Rattle.verifier.specs.Numbering.{Admitted as IsAdmitted};
 
-use crate::memory::{filled, slots};
-use crate::stored::{Case, ENTRY, entry_numbers};
+use crate::memory::{filled_units, slots};
+use crate::stored::{Case, entry_numbers};
 use crate::words::{stop_word, units_word};
 use host::label::Label;
 use machine::stop::Stop;
@@ -14,13 +14,6 @@ use verifier::admit::Admitted;
 /// The fuel of one go.
 pub(crate) const FUEL: u32 = 10_000;
 
-/// How many keys were refused, and the bytes of the keys that are left.
-#[derive(Clone, Copy)]
-struct Keyed<'b> {
-    lost: usize,
-    rest: &'b [u8],
-}
-
 /// What is told of the gos on a label: the last one's stop, how many instructions all did, and how many keys were refused.
 #[derive(Clone, Copy)]
 struct Gone {
@@ -29,20 +22,12 @@ struct Gone {
     lost: usize,
 }
 
-/// Keys so many byte pairs, or as many as there are.
-fn key_some<'b>(label: &mut Label<'_>, keys: &'b [u8], count: usize) -> Keyed<'b> {
-    let mut lost = 0usize;
-    let mut rest = keys;
-    for _ in 0..count {
-        let [high, low, tail @ ..] = rest else {
-            break;
-        };
-        if label.key(u16::from_be_bytes([*high, *low])).is_err() {
-            lost = lost.saturating_add(1);
-        }
-        rest = tail;
-    }
-    Keyed { lost, rest }
+/// Keys units, each of two bytes, and answers how many of them were refused.
+fn key_all(label: &mut Label<'_>, units: &[[u8; 2]]) -> usize {
+    units
+        .iter()
+        .filter(|unit| label.key(u16::from_be_bytes(**unit)).is_err())
+        .count()
 }
 
 /// The words of the gos on a label.
@@ -66,15 +51,15 @@ pub(crate) fn in_one_go(
     requires { IsAdmitted admitted.file.now admitted.sheet.now }
 {
     let mut line = slots(heap, case.slots)?;
-    let mut cells = filled(heap, case.cells)?;
+    let mut cells = filled_units(heap, case.cells)?;
     let mut label = Label::new(line.as_mut_slice());
-    let keyed = key_some(&mut label, case.keys, case.keys.len());
+    let lost = key_all(&mut label, case.keys.as_chunks().0);
     let mut run = Run::start(admitted, cells.as_mut_slice());
     let (stop, count) = run.go(&mut label, FUEL);
     let gone = Gone {
         stop: Some(stop),
         count: count as u64,
-        lost: keyed.lost,
+        lost,
     };
     words(heap, gone, label.shown())
 }
@@ -86,18 +71,17 @@ fn go_slices(run: &mut Run<'_, '_, '_>, label: &mut Label<'_>, case: &Case<'_>) 
         count: 0,
         lost: 0,
     };
-    let mut keys = case.keys;
-    for slice in case.slices.chunks_exact(ENTRY) {
-        let Some((fuel, arriving)) = entry_numbers(slice) else {
-            break;
-        };
-        let keyed = key_some(label, keys, arriving as usize);
-        keys = keyed.rest;
+    let mut units = case.keys.as_chunks().0;
+    for slice in case.slices {
+        let (fuel, arriving) = entry_numbers(*slice);
+        let (arrived, later) = units.split_at(units.len().min(arriving as usize));
+        units = later;
+        let lost = key_all(label, arrived);
         let (stop, count) = run.go(label, fuel);
         gone = Gone {
             stop: Some(stop),
             count: gone.count.saturating_add(count as u64),
-            lost: gone.lost.saturating_add(keyed.lost),
+            lost: gone.lost.saturating_add(lost),
         };
     }
     gone
@@ -112,7 +96,7 @@ pub(crate) fn in_slices(
     requires { IsAdmitted admitted.file.now admitted.sheet.now }
 {
     let mut line = slots(heap, case.slots)?;
-    let mut cells = filled(heap, case.cells)?;
+    let mut cells = filled_units(heap, case.cells)?;
     let mut label = Label::new(line.as_mut_slice());
     let mut run = Run::start(admitted, cells.as_mut_slice());
     let gone = go_slices(&mut run, &mut label, case);

@@ -3,7 +3,7 @@ ghost use Rattle.std.specs.Prelude.{◌≡◌};
 ghost use Rattle.verifier.specs.Numbering.{Admitted as IsAdmitted};
 
 use crate::digest::digest_of_bytes;
-use crate::memory::{filled, filled_bytes};
+use crate::memory::{filled_bytes, filled_units};
 use crate::on_label::FUEL;
 use crate::stored::Case;
 use crate::words::stop_word;
@@ -45,7 +45,7 @@ pub(crate) fn recorded(
 ) -> Result<String, AllocError>
     requires { IsAdmitted admitted.file.now admitted.sheet.now }
 {
-    let mut cells = filled(heap, case.cells)?;
+    let mut cells = filled_units(heap, case.cells)?;
     let mut memory = filled_bytes(heap, case.memory)?;
     let gone = go(
         admitted,

@@ -19,12 +19,8 @@ loop-fuel-preserved g c =
       g.H.Host.kept_trans _ _ _ c.loop-fuel.invariant.1 c.go.ensures.kept,
     )
 
-pub returns : goal.returns
-returns g c =
+pub returns-clause-makes : goal.returns-clause-makes
+returns-clause-makes g c =
     let h0 = host_of (g.H.Host.waiting c.args.host.now) (g.H.Host.written c.args.host.now) (g.H.Host.space c.args.host.now) in
     let h = host_of (g.H.Host.waiting c.loop-fuel.host) (g.H.Host.written c.loop-fuel.host) (g.H.Host.space c.loop-fuel.host) in
-    record {
-      makes = going_last c.args.run.now h0 c.args.fuels.now c.loop-fuel.fuel-index c.loop-fuel.run h c.loop-fuel.invariant.0 (omega arith);
-      stays = c.loop-fuel.invariant.0.stays;
-      kept = c.loop-fuel.invariant.1;
-    }
+    going_last c.args.run.now h0 c.args.fuels.now c.loop-fuel.fuel-index c.loop-fuel.run h c.loop-fuel.invariant.0 (omega arith)
