@@ -11,6 +11,7 @@ use bytecode::places::code_places;
 use format::layout::entry_place;
 use mnemonics::text;
 use std::alloc::{AllocError, Global};
+use verifier::sheet::entry_at;
 
 /// An entry of the sheet: a number, or that the place is not reached.
 fn number_text(heap: Global, entry: u16) -> Result<String, AllocError>
@@ -24,20 +25,12 @@ fn number_text(heap: Global, entry: u16) -> Result<String, AllocError>
 }
 
 impl Program<'_> {
-    /// What the sheet says of `place`.
-    fn entry_at(&self, place: usize) -> u16
-        requires { place < length self.now.sheet.now }
-        ensures { result ≡ number self.now.sheet.now place }
-    {
-        self.sheet[place]
-    }
-
     /// The peak of method `k`, which the sheet has at the method's entry.
     pub(crate) fn peak_at(&self, k: usize) -> u16
         requires { k < methods self.now.file.now }
         ensures { result ≡ number self.now.sheet.now (entry k) }
     {
-        self.entry_at(entry_place(k))
+        entry_at(self.sheet, entry_place(k))
     }
 
     /// The instruction at `place`, which is known.
@@ -58,7 +51,7 @@ impl Program<'_> {
         requires known { 0 < length_of (byte self.now.file.now place) }
         ensures { IfOk result (λ s. string_bytes s ≡ place_line self.now.file.now self.now.sheet.now place) }
     {
-        let number = number_text(heap, self.entry_at(place))?;
+        let number = number_text(heap, entry_at(self.sheet, place))?;
         let instruction = self.instruction_text(heap, place)?;
         format!(in heap; "place {place} {number} {instruction}\n")
     }

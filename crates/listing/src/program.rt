@@ -1,11 +1,11 @@
 //! A program that the check accepts.
-ghost use Rattle.std.specs.Prelude.{◌≡◌, ◌<◌, ◌≤◌, length, None};
+ghost use Rattle.std.specs.Prelude.{◌≡◌, ◌<◌, None};
 ghost use Rattle.format.specs.Layout.{methods};
 ghost use Rattle.bytecode.specs.Rules.{code_refusal};
 
 use format::reader::Reader;
 
-/// A file that breaks no rule of the layout or the code, its reader, and a sheet that is as long at least. The file counts its methods in a byte.
+/// A file that breaks no rule of the layout or the code, its reader, and a sheet of it. The file counts its methods in a byte.
 #[derive(Drop)]
 pub(crate) struct Program<'a> {
     pub(crate) file: &'a [u8],
@@ -14,5 +14,4 @@ pub(crate) struct Program<'a> {
     ghost reads: { reader.bytes.now ≡ file.now },
     ghost few: { methods file.now < 256 },
     ghost code: { code_refusal file.now ≡ None },
-    ghost long: { length file.now ≤ length sheet.now },
 }

@@ -69,7 +69,6 @@ impl Program<'_> {
 fn accepted_text(heap: Global, file: &[u8], sheet: &[u16]) -> Result<String, AllocError>
     requires layout { Accepted file.now }
     requires code { code_refusal file.now ≡ None }
-    requires long { length file.now ≤ length sheet.now }
     ensures { IfOk result (λ s. string_bytes s ≡ parts_text file.now sheet.now) }
 {
     let Ok(reader) = read(file) else {
