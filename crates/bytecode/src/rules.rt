@@ -3,7 +3,7 @@ ghost use Rattle.std.specs.Prelude.{◌≡◌, ℕ, ◌+◌, ◌<◌, ◌≤◌,
 ghost use mathlib.Core.List.{Memᴰ};
 ghost use Rattle.std.specs.Option.{option_map};
 ghost use Rattle.std.specs.Result.{result_err};
-ghost use Rattle.refusals.specs.declared.Rule.TheVariants.{MixedReturns};
+ghost use Rattle.refusals.specs.declared.Rule.TheVariants.{BadInstruction, BadIndex, BadTarget, MixedReturns};
 ghost use Rattle.format.specs.Search.{first, upto};
 ghost use Rattle.format.specs.Layout.{methods, code_address};
 ghost use Rattle.format.specs.Rules.{refused};
@@ -88,6 +88,34 @@ pub fn every_place_keeps<F: Fn(usize, usize) -> bool>(
     Ok(())
 }
 
+/// Every instruction is known and ends in its method.
+fn instructions_whole(file: &[u8]) -> Result<(), Refusal>
+    requires { Accepted file.now }
+    ensures { result_err result ≡ refused BadInstruction (option_map (λ (x : Point). x.place) (first (bad_instruction file.now) (points file.now))) }
+{
+    every_place_keeps(
+        file,
+        Rule::BadInstruction,
+        |k, place| bad_instruction(file, k, place),
+    )
+}
+
+/// Every index is inside its table.
+fn indices_inside(file: &[u8]) -> Result<(), Refusal>
+    requires { Accepted file.now }
+    ensures { result_err result ≡ refused BadIndex (option_map (λ (x : Point). x.place) (first (bad_index file.now) (points file.now))) }
+{
+    every_place_keeps(file, Rule::BadIndex, |k, place| bad_index(file, k, place))
+}
+
+/// Every jump leads to a place of its method.
+fn targets_inside(file: &[u8]) -> Result<(), Refusal>
+    requires { Accepted file.now }
+    ensures { result_err result ≡ refused BadTarget (option_map (λ (x : Point). x.place) (first (bad_target file.now) (points file.now))) }
+{
+    every_place_keeps(file, Rule::BadTarget, |k, place| bad_target(file, k, place))
+}
+
 /// Whether method `k` has both kinds of return, or neither.
 fn mixed_returns(file: &[u8], k: usize) -> bool
     requires { (Accepted file.now) × (k < methods file.now) }
@@ -114,10 +142,8 @@ pub fn code_sound(file: &[u8]) -> Result<(), Refusal>
     requires { Accepted file.now }
     ensures { result_err result ≡ code_refusal file.now }
 {
-    every_place_keeps(file, Rule::BadInstruction, |k, place| {
-        bad_instruction(file, k, place)
-    })?;
-    every_place_keeps(file, Rule::BadIndex, |k, place| bad_index(file, k, place))?;
-    every_place_keeps(file, Rule::BadTarget, |k, place| bad_target(file, k, place))?;
+    instructions_whole(file)?;
+    indices_inside(file)?;
+    targets_inside(file)?;
     returns_of_one_kind(file)
 }

@@ -22,6 +22,7 @@ impl<'f> Iterator for Places<'f> {
 
     ghost remaining = { item_count left };
 
+    #[tactic(auto, using(crate::proofs::Walks::left_none, crate::proofs::Walks::left_more))]
     fn next(&mut self) -> Option<usize> {
         if self.place >= self.end {
             return None;

@@ -1,0 +1,10 @@
+use Rattle.std.proofs.Common.{rules}
+use Rattle.bytecode.specs.Rules.{bad_index}
+use Rattle.bytecode.proofs.Turns.{place_fits}
+use Rattle.bytecode.proofs.rules.indices_inside.Goals as goal
+
+pub every_place_keeps-requires-clause-callable : goal.every_place_keeps-requires-clause-callable
+every_place_keeps-requires-clause-callable c = search (rules, place_fits)
+
+pub returns : goal.returns
+returns c = c.every_place_keeps.ensures (bad_index c.args.file.now) (λ k p b r. search rules)
