@@ -10,7 +10,7 @@ use crate::laying::{Head, lay};
 use crate::{Frames, HEAD};
 use format::layout::{MethodEntry, method_entry};
 
-/// What main's frame has for the place and the base of the caller that it lacks.
+/// What main's frame has for the place and the base of the caller that it lacks. It stands in cells, so it is a number and no Option.
 const NONE: u16 = 65_535;
 
 impl<'f, 's> Frames<'f, 's> {

@@ -15,7 +15,8 @@ pub fn run_report(heap: Global, stop: Stop, count: u32, units: &[u16]) -> Result
     format!(in heap; "ejvm 1\nstop {stop}\ncount {count}\nunits{units}\n")
 }
 
-/// The report of a go on a recorder: its stop, its count, and the recorder's memory.
+/// The report of a go on a recorder: its stop, its count, and the recorder's memory. One function for this and the report above would
+/// take the word of the last line besides, and be no shorter.
 pub fn record_report(
     heap: Global,
     stop: Stop,

@@ -7,7 +7,7 @@ use host::Host;
 use machine::stop::Stop;
 
 impl<'f, 'p, 's> Interpreter<'f, 'p, 's> {
-    /// Does the next instruction, or answers what hinders it and changes nothing.
+    /// Does the next instruction, or answers what hinders it and changes nothing. It is told by its byte, as `execute` says.
     pub(crate) fn step<H: Host>(&mut self, host: &mut H) -> Option<Stop>
         requires runs { is_some self.old.ended ≡ false }
         ensures kept { H.kept host.old host.new }

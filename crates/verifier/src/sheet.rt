@@ -2,7 +2,7 @@
 ghost use Rattle.std.specs.Prelude.{◌≡◌};
 ghost use Rattle.verifier.specs.Numbering.{number, numbered};
 
-/// The entry of a place without a number.
+/// The entry of a place without a number, as the form of a sheet has it.
 pub(crate) const BLANK: u16 = 65_535;
 
 /// What the sheet says of `place`; past its end it is blank.
