@@ -6,13 +6,6 @@ use Rattle.std.proofs.lemmas.Bool.{le-ltb}
 use Rattle.host.specs.declared.recorder.Recorder.{Recorder}
 use Rattle.host.specs.Recorder.{bytes_of, units_of, room_in, recorded, recorder_written, recorder_space, Records}
 
--- the first unit of at least two bytes, and the bytes after it as a slice pattern parts them
-pub units_first : (s : List ℕ) (u : ℕ) → 2 ≤ length s → u ≡ get_or s 0 0 * 256 + get_or s 1 0 →
-    units_of s ≡ u ∷ units_of (take (length s - 2) (drop 2 s))
-units_first [] u h e = absurd (omega arith)
-units_first (a ∷ []) u h e = absurd (omega arith)
-units_first (a ∷ b ∷ s) u h e = rw (take_rest (a ∷ b ∷ s) 2, e)
-
 -- two more bytes after whole units are one more unit
 units_push : (s : List ℕ) (a b : ℕ) → length s % 2 ≡ 0 → units_of (s ++ a ∷ b ∷ []) ≡ units_of s ++ (a * 256 + b) ∷ []
 units_push [] a b h = refl

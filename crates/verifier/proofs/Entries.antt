@@ -1,7 +1,7 @@
 -- What a sheet says at a place after a write, and what the blank sheet says. Assumes nothing.
 use Rattle.std.proofs.Common.{◌≡◌, ℕ, ◌<◌, ◌≤◌, true, eqb, ◌⊎◌, List, length, get_or, set, count_by, ap, ◌∙◌, inl, inr, arith}
 use lib.ListN.{length-replicate, get_or-replicate}
-use Rattle.std.proofs.lemmas.List.{get_or-set_same, get_or-set_other, set_past, get_or_past, get_or_default}
+use Rattle.std.proofs.lemmas.List.{get_or-set_same, get_or-set_other, set_past, get_or_past}
 use Rattle.std.proofs.lemmas.Bool.{cases_eq, cases_lt, eq-eqb, ne_eqb}
 use Rattle.format.proofs.Finds.{In}
 use Rattle.verifier.specs.Numbering.{blank, number, blanks}
@@ -12,10 +12,6 @@ number-set_same s q d h = get_or-set_same s q d blank h
 
 pub number-set_other : (s : List ℕ) (q d p : ℕ) → (p ≡ q → ⊥) → number (set s q d) p ≡ number s p
 number-set_other s q d p h = get_or-set_other s q p d blank h
-
--- an entry that is read
-pub number_read : (s : List ℕ) (p e : ℕ) → p < length s → get_or s p e ≡ number s p
-number_read s p e l = get_or_default s p e blank l
 
 -- after a write of d at q: d there if the sheet reaches so far, else what it said before
 pub number-set_cases : (s : List ℕ) (q d p : ℕ) → ((p ≡ q) × (number (set s q d) p ≡ d)) ⊎ (number (set s q d) p ≡ number s p)

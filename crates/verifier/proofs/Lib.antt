@@ -16,7 +16,6 @@ pub mod Methods
 pub mod Tally
 pub mod Verified
 pub mod Steps
-pub mod Walking
 pub mod Gifts
 pub mod Rounds
 pub mod Checked
