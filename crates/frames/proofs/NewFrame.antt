@@ -1,10 +1,6 @@
 -- The cells of a new frame, as they are laid, and the frames with it. Assumes nothing.
 use Rattle.std.proofs.Common.{◌≡◌, ℕ, zero, suc, ◌+◌, ◌-◌, ◌≤◌, true, List, [], ◌∷◌, ◌++◌, reverse, length, get_or, take, drop, replicate, sym, refl, ap, ◌∙◌, add-one, arith}
-use borrow.Rule.Slice.PartMut.{put_mid}
-use lib.Seq.{paste, take-add}
-use Rattle.std.proofs.lemmas.Slice.{take-put_mid, drop-put_mid}
-use Rattle.std.proofs.lemmas.List.{append_assoc, reverse-append, reverse-reverse, length-append, length-drop, length-replicate, length-reverse, length-take, length-take-le, take-append-drop, take-append-le, take_all, take_at, take-take, drop_all, drop_at, drop-drop, drop-take, get_or-append_right, get_or_at, get_or-take}
-use Rattle.std.proofs.lemmas.List.Edits.{length-paste, take-paste}
+use Rattle.std.proofs.lemmas.List.{reverse-append, reverse-reverse, length-append, length-drop, length-replicate, length-reverse, length-take-le, take-append-drop, take_all, take_at, take-take, drop_all, drop_at, drop-drop, drop-take, get_or-append_right, get_or_at, get_or-take}
 use Rattle.std.proofs.lemmas.Bool.{eq-eqb}
 use Rattle.format.specs.Layout.{parameters, locals}
 use Rattle.machine.specs.Machine.{with_operands}
@@ -18,43 +14,6 @@ get_or_in : (xs ys : List ℕ) (b i : ℕ) → length xs ≡ b → get_or (xs ++
 get_or_in xs ys b i e =
     let j : b + i - b ≡ i = omega arith in
     get_or-append_right xs ys b (b + i) 0 e (omega arith) ∙ ap (λ k. get_or ys k 0) j
-
--- arguments moved up, zeros, and a head: the cells of a frame
-module _ (d : List ℕ) (b n k : ℕ) (room : b + 3 + n + k ≤ length d) where
-  module _ (one w : List ℕ) (moved : one ≡ paste d (b + 3) (drop b d) n) (zeros : w ≡ paste one (b + 3 + n) (replicate k 0) k) where
-    upper : take (b + 3 + n + k) w ≡ take (b + 3) d ++ (take n (drop b d) ++ replicate k 0)
-    upper =
-        let size : n ≤ length (drop b d) = simp length-drop (omega arith) in
-        let l : length one ≡ length d = ap length moved ∙ length-paste d (b + 3) (drop b d) n (omega arith) size in
-        let r = length-replicate k (zero) in
-        ap (take (b + 3 + n + k)) zeros
-        ∙ take-paste one (b + 3 + n) (replicate k 0) k (omega arith) (omega arith)
-        ∙ ap (λ t. t ++ take k (replicate k 0)) (ap (take (b + 3 + n)) moved ∙ take-paste d (b + 3) (drop b d) n (omega arith) size)
-        ∙ ap (λ t. (take (b + 3) d ++ take n (drop b d)) ++ t) (take_all k (replicate k 0) (omega arith))
-        ∙ append_assoc (take (b + 3) d) (take n (drop b d)) (replicate k 0)
-
-    pub laid_cells : (hs : List ℕ) (j m p c : ℕ) → j ≡ 3 → hs ≡ m ∷ p ∷ c ∷ [] →
-        take (b + 3 + n + k) (put_mid b j w hs) ≡ take b d ++ (m ∷ p ∷ c ∷ (take n (drop b d) ++ replicate k 0))
-    laid_cells hs j m p c three head =
-        let l = put_mid b j w hs in
-        let new = take n (drop b d) ++ replicate k 0 in
-        let ends : b + 3 + n + k ≡ b + 3 + (n + k) = omega arith in
-        let size : length (take (b + 3 + n + k) w) ≡ b + 3 + length new = ap length upper ∙ length-append (take (b + 3) d) new ∙ ap (λ i. i + length new) (length-take-le (b + 3) d (omega arith)) in
-        let all = length-take (b + 3 + n + k) w in
-        let fits : b + 3 ≤ length w = omega arith in
-        let h : length hs ≡ 3 = ap length head in
-        let under : take b w ≡ take b d
-        = sym (take-take b (b + 3 + n + k) w (omega arith)) ∙ ap (take b) upper ∙ take-append-le b (take (b + 3) d) new (omega (arith, length-take-le (b + 3) d (omega arith))) ∙ take-take b (b + 3) d (omega arith) in
-        let above : take (n + k) (drop (b + 3) w) ≡ new
-        = sym (drop-take (b + 3) (n + k) w) ∙ ap (λ i. drop (b + 3) (take i w)) (sym ends) ∙ ap (drop (b + 3)) upper ∙ drop_at (take (b + 3) d) new (b + 3) (length-take-le (b + 3) d (omega arith)) in
-        ap (λ i. take i l) ends
-        ∙ take-add (b + 3) (n + k) l
-        ∙ ap (λ t. t ++ take (n + k) (drop (b + 3) l)) (take-put_mid b j w hs (b + 3) (omega arith) (omega arith))
-        ∙ ap (λ t. (take b w ++ hs) ++ take (n + k) t) (drop-put_mid b j w hs (b + 3) (omega arith) (omega arith) (h ∙ sym three))
-        ∙ ap (λ t. (take b w ++ hs) ++ t) above
-        ∙ append_assoc (take b w) hs new
-        ∙ ap (λ t. t ++ (hs ++ new)) under
-        ∙ ap (λ t. take b d ++ (t ++ new)) head
 
 -- the frame whose cells they are
 pub new_frame : (f low t : List ℕ) (b m p c : ℕ) → length low ≡ b → length t ≡ variables_of f m →
