@@ -24,10 +24,13 @@ struct Gone {
 
 /// Keys units, each of two bytes, and answers how many of them were refused.
 fn key_all(label: &mut Label<'_>, units: &[[u8; 2]]) -> usize {
-    units
-        .iter()
-        .filter(|unit| label.key(u16::from_be_bytes(**unit)).is_err())
-        .count()
+    let mut lost: usize = 0;
+    for unit in units {
+        if label.key(u16::from_be_bytes(*unit)).is_err() {
+            lost = lost.saturating_add(1);
+        }
+    }
+    lost
 }
 
 /// The words of the gos on a label.
