@@ -1,5 +1,5 @@
 //! The rules of the code. Each is sought through the whole file, and names its first offender.
-ghost use Rattle.std.specs.Prelude.{◌≡◌, ℕ, ◌+◌, ◌<◌, ◌≤◌, Bool, length};
+ghost use Rattle.std.specs.Prelude.{◌≡◌, ℕ, ◌+◌, ◌<◌, ◌≤◌, Bool, not, length, Option};
 ghost use mathlib.Core.List.{Memᴰ};
 ghost use Rattle.std.specs.Option.{option_map};
 ghost use Rattle.std.specs.Result.{result_err};
@@ -8,7 +8,7 @@ ghost use Rattle.format.specs.Search.{first, upto};
 ghost use Rattle.format.specs.Layout.{methods, code_address};
 ghost use Rattle.format.specs.Rules.{refused};
 ghost use Rattle.format.specs.Parts.{Accepted};
-ghost use Rattle.bytecode.specs.Places.{Point, points, places, code_end};
+ghost use Rattle.bytecode.specs.Places.{Point, points, places, code_end, whole};
 ghost use Rattle.bytecode.specs.Rules.{bad_instruction, bad_index, bad_target, mixed_returns, code_refusal};
 
 use crate::decode::instruction_at;
@@ -20,12 +20,21 @@ use format::layout::{constant_count, message_count, method_count, method_entry};
 use format::refuse::refuse_at;
 use refusals::{Refusal, Rule};
 
-/// Whether the instruction at `place`, in method `k`, is unknown or passes the method's end.
-fn bad_instruction(file: &[u8], k: usize, place: usize) -> bool
-    requires { (Accepted file.now) × ((k < methods file.now) × (place < code_end file.now k)) }
-    ensures { result ≡ bad_instruction file.now (record { method = k; place = place }) }
+/// Whether the instruction at `place` is unknown or passes the method's end.
+fn bad_instruction(file: &[u8], place: usize, end: usize) -> bool
+    requires { (place < end) × ((end ≤ length file.now) × (end < 65536)) }
+    ensures { result ≡ not (whole file.now end place) }
 {
-    instruction_end(file, place, code_range(file, k).end).is_none()
+    instruction_end(file, place, end).is_none()
+}
+
+/// The first place of method `k` whose instruction is unknown or passes the method's end, which is found once.
+fn first_bad_instruction(file: &[u8], k: usize) -> Option<usize>
+    requires { (Accepted file.now) × (k < methods file.now) }
+    ensures { result ≡ first (λ p. bad_instruction file.now (record { method = k; place = p })) (places file.now k) }
+{
+    let end = code_range(file, k).end;
+    code_places(file, k).find(|place| bad_instruction(file, *place, end))
 }
 
 /// Whether the index of the instruction at `place`, in method `k`, is outside its table.
@@ -64,6 +73,26 @@ fn bad_target(file: &[u8], k: usize, place: usize) -> bool
     }
 }
 
+/// Every method of the file keeps the rule: `first_offender` says of a method which of its places breaks it first. Only for the crates
+/// above: the layout of the file is accepted.
+pub fn every_method_keeps<F: Fn(usize) -> Option<usize>>(
+    file: &[u8],
+    rule: Rule,
+    first_offender: F,
+) -> Result<(), Refusal>
+    requires layout { Accepted file.now }
+    requires callable { (k : ℕ) → k < methods file.now → F.pre first_offender k }
+    ensures { (broken : Point → Bool) → ((k : ℕ) (o : Option ℕ) → F.post first_offender k o → o ≡ first (λ p. broken (record { method = k; place = p })) (places file.now k)) → result_err result ≡ refused rule (option_map (λ (x : Point). x.place) (first broken (points file.now))) }
+{
+    let methods = method_count(file) as usize;
+    for k in 0..methods {
+        if let Some(place) = first_offender(k) {
+            return Err(Refusal { rule, place });
+        }
+    }
+    Ok(())
+}
+
 /// Every instruction of the file keeps the rule: `breaks` says of a method and a place of it whether the instruction there breaks it. Only for
 /// the crates above: the layout of the file is accepted.
 pub fn every_place_keeps<F: Fn(usize, usize) -> bool>(
@@ -93,10 +122,10 @@ fn instructions_whole(file: &[u8]) -> Result<(), Refusal>
     requires { Accepted file.now }
     ensures { result_err result ≡ refused BadInstruction (option_map (λ (x : Point). x.place) (first (bad_instruction file.now) (points file.now))) }
 {
-    every_place_keeps(
+    every_method_keeps(
         file,
         Rule::BadInstruction,
-        |k, place| bad_instruction(file, k, place),
+        |k| first_bad_instruction(file, k),
     )
 }
 

@@ -12,9 +12,10 @@ ghost use Rattle.verifier.specs.Numbering.{breaks, bad_peak, admit_refusal};
 ghost use Rattle.verifier.specs.Verdicts.{AgreesWithCheck};
 
 use crate::code::Code;
+use crate::judge::first_break;
 use crate::method_peak::peak_of;
 use crate::sheet::entry_at;
-use bytecode::rules::every_place_keeps;
+use bytecode::rules::every_method_keeps;
 use format::layout::{entry_place, method_count};
 use format::reader::read;
 use format::refuse::refuse_at;
@@ -24,9 +25,7 @@ use refusals::{Refusal, Rule};
 fn every_number_right(code: &Code, sheet: &[u16]) -> Result<(), Refusal>
     ensures { result_err result ≡ refused BadNumber (option_map (λ (x : Point). x.place) (first (breaks (bytes code.now) sheet.now) (points (bytes code.now)))) }
 {
-    every_place_keeps(code.file, Rule::BadNumber, |k, place| {
-        code.point(k, place).breaks(sheet)
-    })
+    every_method_keeps(code.file, Rule::BadNumber, |k| first_break(code, sheet, k))
 }
 
 /// Whether the sheet's entry of method `k` is not its peak.

@@ -33,7 +33,7 @@ impl Point<'_, '_> {
     fn leads_on(&self, sheet: &[u16], depth: u8) -> bool
         ensures { result ≡ all (λ q. is_place (bytes self.now.code.now) self.now.method q && number sheet.now q == depth) (successors (bytes self.now.code.now) self.now.place) }
     {
-        let end = code_range(self.code.file, self.method).end;
+        let end = self.range.end;
         match successors(self.code.file, self.place) {
             Successors::Nowhere => true,
             Successors::One(next) => has_number(sheet, end, next, depth),
@@ -58,7 +58,7 @@ impl Point<'_, '_> {
         ensures { result ≡ breaks (bytes self.now.code.now) sheet.now (record { method = self.now.method; place = self.now.place }) }
     {
         let entry = entry_at(sheet, self.place);
-        if self.place == code_range(self.code.file, self.method).start && entry != 0 {
+        if self.place == self.range.start && entry != 0 {
             return true;
         }
         match u8::try_from(entry) {
@@ -73,5 +73,6 @@ pub(crate) fn first_break(code: &Code, sheet: &[u16], k: usize) -> Option<usize>
     requires { k < methods (bytes code.now) }
     ensures { result ≡ first (λ p. breaks (bytes code.now) sheet.now (record { method = k; place = p })) (places (bytes code.now) k) }
 {
-    code_places(code.file, k).find(|place| code.point(k, *place).breaks(sheet))
+    let range = code_range(code.file, k);
+    code_places(code.file, k).find(|place| code.point(k, range, *place).breaks(sheet))
 }

@@ -48,9 +48,8 @@ fn go_on(point: &Point, sheet: &mut [u16], line: &mut Ring<Pending>, depth: u8)
     let Some(result) = point.result(depth) else {
         return;
     };
-    let file = point.code.file;
-    let end = code_range(file, point.method).end;
-    match successors(file, point.place) {
+    let end = point.range.end;
+    match successors(point.code.file, point.place) {
         Successors::Nowhere => {}
         Successors::One(next) => give(sheet, line, end, next, result),
         Successors::Two(target, next) => {
@@ -73,7 +72,7 @@ fn number_method(code: &Code, k: usize, sheet: &mut [u16], line: &mut Ring<Pendi
     let range = code_range(code.file, k);
     give(sheet, line, range.end, range.start, 0);
     while let Some(waited) = line.pop() {
-        let point = code.point(k, waited.place as usize);
+        let point = code.point(k, range, waited.place as usize);
         go_on(&point, sheet, line, waited.number as u8);
     }
 }

@@ -29,7 +29,12 @@ first_waits : {f s : List ℕ} {k : ℕ} {x : Pending} {ws rest : List Pending} 
 first_waits {f} {s} {k} {x} h e = (subst (λ z. Spreads f k (work s z)) e h).waiting x (Memᴰ.head refl)
 
 pub point-point-requires : goal.point-point-requires
-point-point-requires c = (c.requires.method, (first_waits c.loop-waited.invariant.0.0 c.in-Some.ensures.items).0)
+point-point-requires c = record {
+  place = (c.requires.method, (first_waits c.loop-waited.invariant.0.0 c.in-Some.ensures.items).0);
+  starts = c.code_range-range.ensures.starts;
+  ends = c.code_range-range.ensures.ends;
+  inside = c.code_range-range.ensures.inside;
+}
 
 pub overflow_cast-waited-in-Some : goal.overflow_cast-waited-in-Some
 overflow_cast-waited-in-Some c = let w = (first_waits c.loop-waited.invariant.0.0 c.in-Some.ensures.items).2 in omega arith
