@@ -3,11 +3,11 @@ use Rattle.std.proofs.Common.{◌≡◌, ℕ, zero, suc, ◌+◌, ◌-◌, ◌<�
 use mathlib.Core.List.Memᴰ
 use Rattle.std.proofs.lemmas.Bool.{ltb-true, ltb-false}
 use Rattle.std.proofs.lemmas.Bool.Decides.{nat_tests}
-use Rattle.format.specs.Layout.{byte}
+use Rattle.format.specs.Layout.{byte, code_address, code_size}
 use Rattle.format.specs.Search.{first}
 use Rattle.format.proofs.Finds.{In, first_nil, first_cons}
 use Rattle.bytecode.specs.Opcodes.{length_of}
-use Rattle.bytecode.specs.Places.{next, whole, decoded}
+use Rattle.bytecode.specs.Places.{code_end, next, whole, decoded, places}
 
 -- the place after p, or the end
 abbrev pub after : List ℕ → ℕ → ℕ → ℕ
@@ -63,6 +63,13 @@ module _ (f : List ℕ) (e : ℕ) where
       go : (b : Bool) → whole f e p ≡ b → cond b (decoded f e (next f p) (e - p)) [] ≡ left f e (cond b (next f p) e)
       go true w = let h = whole_ends p w in decoded_enough (next f p) (e - p) (e - next f p) (omega arith) (omega arith)
       go false w = sym (left_none e (omega arith))
+
+-- a walk begins with all places of the method
+pub left_all : (f : List ℕ) (k : ℕ) → left f (code_end f k) (code_address f k) ≡ places f k
+left_all f k = let e : (code_address f k + code_size f k) - code_address f k ≡ code_size f k = sizes (code_address f k) (code_size f k) in rw e
+  where
+    sizes : (a s : ℕ) → (a + s) - a ≡ s
+    sizes a s = omega arith
 
 -- a place that is decoded lies before the end, and not before the first
 pub decoded_inside : (f : List ℕ) (e p n q : ℕ) → In q (decoded f e p n) → (p ≤ q) × (q < e)

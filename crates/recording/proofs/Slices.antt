@@ -1,10 +1,10 @@
 -- Gos with some fuels: what holds after the first of them.
-use Rattle.std.proofs.Common.{◌≡◌, ℕ, ◌+◌, ◌<◌, ◌≤◌, List, ◌∷◌, length, get_or, drop, Option, refl, ap, ◌∙◌, subst, drop_of_length-le}
+use Rattle.std.proofs.Common.{◌≡◌, ℕ, ◌+◌, ◌<◌, ◌≤◌, List, ◌∷◌, length, get_or, drop, Option, sym, refl, ap, ◌∙◌, subst, drop_of_length-le}
 use Rattle.std.proofs.lemmas.List.{drop_more}
 use Rattle.machine.specs.declared.stop.Stop.{Stop}
 use Rattle.machine.specs.Machine.{State}
-use Rattle.machine.specs.Go.{Host, Outcome, outcome}
-use Rattle.machine.specs.Rows.{Event, slice, Row, row}
+use Rattle.machine.specs.Go.{Host, Outcome, outcome, start}
+use Rattle.machine.specs.Rows.{Event, slice, Row, row, new}
 use Rattle.run.specs.declared.run.Run.{Run}
 use Rattle.run.proofs.Runs.{stays_refl, stays_trans}
 use Rattle.run.specs.Run.{file_of, sheet_of, size_of, seen, Goes, Stays}
@@ -60,3 +60,16 @@ going_last r h fuels i r' h' g past sum =
     let x : Row = record { cells = size_of r; run = seen r'; host = h'; sum = (g.rows sum).0 } in
     let e = (g.rows sum).1 ∙ ap (λ (fs : List ℕ). row (file_of r) (sheet_of r) x (slices fs)) (drop_of_length-le fuels past) in
     (ap (λ (y : Row). y.run) e, ap (λ (y : Row). y.host) e)
+
+-- a row of a new run: what it leaves of the host, where the run was started so and the gos on it were made so
+pub row_written : (f s : List ℕ) (cells : ℕ) (h h₁ : Host) (fuels : List ℕ) (r r' : Run) (h' : Host) →
+    seen r ≡ start f s cells → file_of r ≡ f → sheet_of r ≡ s → size_of r ≡ cells → h₁ ≡ h → Makes r h₁ fuels r' h' →
+    (row f s (new f s cells h) (slices fuels)).host ≡ h'
+row_written f s cells h h₁ fuels r r' h' e ef es ec eh m =
+    sym (
+    ap (λ (x : List ℕ). (row x (sheet_of r) (row_of r h₁ 0) (slices fuels)).host) ef
+    ∙ ap (λ (x : List ℕ). (row f x (row_of r h₁ 0) (slices fuels)).host) es
+    ∙ ap (λ (x : ℕ). (row f s (record { cells = x; run = seen r; host = h₁; sum = 0 }) (slices fuels)).host) ec
+    ∙ ap (λ (x : Option State). (row f s (record { cells = cells; run = x; host = h₁; sum = 0 }) (slices fuels)).host) e
+    ∙ ap (λ (x : Host). (row f s (record { cells = cells; run = start f s cells; host = x; sum = 0 }) (slices fuels)).host) eh)
+    ∙ (m 0).1

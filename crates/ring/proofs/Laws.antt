@@ -1,6 +1,6 @@
 -- Values from a slot on: how many they are, with one more at the end, with the first one off.
 use Rattle.std.proofs.Common.{◌≡◌, ℕ, zero, suc, ◌+◌, ◌-◌, ◌<◌, ◌≤◌, min, List, [], ◌∷◌, ◌++◌, length, get_or, take, drop, set, sym, ap, ◌∙◌, inl, inr, arith, length-append, length-drop, length-take}
-use Rattle.std.proofs.lemmas.List.{length-take-le, length-set, take-take, take-append-le, take_more_set, drop_all, drop_more, drop-set-add, drop-set-lt, set-append_right}
+use Rattle.std.proofs.lemmas.List.{length-take-le, length-set, take-take, take_all, take-append-le, take_more_set, drop_all, drop_more, drop-set-add, drop-set-lt, set-append_right}
 use Rattle.std.proofs.lemmas.Bool.{cases_lt}
 use Rattle.ring.specs.Ring.{turned, from_slot}
 
@@ -16,6 +16,14 @@ module _ {T : Type 0} (slots : List T) (first : ℕ) where
   unrolled : (count : ℕ) → count ≤ length slots → from_slot slots first count ≡ take count (drop first slots ++ slots)
   unfolding turned
   unrolled count le = take-take count (length slots) (drop first slots ++ slots) le
+
+-- a count over the number of slots stands for that number
+pub from_slot_all : {T : Type 0} (slots : List T) (first count n : ℕ) → length slots ≤ count → n ≡ length slots →
+    from_slot slots first count ≡ from_slot slots first n
+from_slot_all slots first count n le e =
+    let all : length (turned slots first) ≤ count = rw (length-turned slots first) le in
+    let all' : length (turned slots first) ≤ n = rw (length-turned slots first) (omega arith) in
+    take_all count (turned slots first) all ∙ sym (take_all n (turned slots first) all')
 
 -- a slot past the last stands for the first
 pub from_slot_round : {T : Type 0} (slots : List T) (first count : ℕ) → length slots ≤ first →

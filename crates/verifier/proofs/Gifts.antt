@@ -43,6 +43,9 @@ module _ (at : Point) (m : ℕ) where
         given true z = refl
         given false z = let o : ◌≡◌ {A = ℕ} 0 1 = cc in absurd (omega arith)
 
+    pub turn_nowhere : (w : Work) → [] ≡ successors f x.place → w ≡ turn f k w x
+    turn_nowhere w s = gifts w [] s
+
     module _ (n : ℕ) (h : n ≡ code_end f k) where
       -- a gift to a successor, by the end of the code
       gift : (w : Work) (q : ℕ) → In q (successors f x.place) → pend_if (ltb q n) d w q ≡ pend f k d w q

@@ -1,22 +1,24 @@
 -- The worklist over all methods: what is closed stays closed, and what a complete sheet says of check's answer. Assumes nothing.
-use Rattle.std.proofs.Common.{◌≡◌, ℕ, ◌+◌, ◌<◌, ◌≤◌, true, ◌⊎◌, List, [], ◌∷◌, length, set, None, sym, ◌∙◌, subst, inl, inr, arith}
+use Rattle.std.proofs.Common.{◌≡◌, ℕ, ◌+◌, ◌<◌, ◌≤◌, true, ◌⊎◌, List, [], ◌∷◌, length, set, None, sym, ap, ◌∙◌, subst, inl, inr, arith}
 use Rattle.std.proofs.lemmas.Bool.{cases_eq}
+use Rattle.format.specs.Search.{first, upto}
 use Rattle.format.specs.Layout.{methods, code_address}
 use Rattle.format.specs.Parts.{Accepted}
-use Rattle.format.proofs.Finds.{In, none_below}
+use Rattle.format.proofs.Finds.{In, none_below, upto_in}
 use Rattle.format.proofs.Answered.{code_fits}
 use Rattle.bytecode.specs.Places.{places}
 use Rattle.verifier.specs.declared.pending.Pending.{Pending}
-use Rattle.verifier.specs.Numbering.{blank, number, balanced, method_breaks, blanks, numbering, unnumberable}
-use Rattle.verifier.specs.Verdicts.{Counts}
+use Rattle.verifier.specs.Numbering.{blank, number, balanced, method_breaks, blanks, numbering, unnumberable, check_refusal}
+use Rattle.verifier.specs.Verdicts.{Counts, EarlierPass}
 use Rattle.verifier.specs.Worklist.{Work, turn, turns_left, Spreads, Closed, ClosedTo, Complete, OnlyMethod}
 use Rattle.verifier.proofs.Entries.{blanks_blank, blanks_length}
+use Rattle.verifier.proofs.Folds.{first_same}
 use Rattle.verifier.proofs.Places.{start_is_place, places_apart, places_few}
 use Rattle.verifier.proofs.Peaks.{Same}
 use Rattle.verifier.proofs.Closed.{closed_breaks, complete_same}
 use Rattle.verifier.proofs.Settles.{numbering_complete}
 use Rattle.verifier.proofs.Turns.{work, pending, spreads_start, spreads_turn, spreads_end, turn_left, start_left, only_turn}
-use Rattle.verifier.proofs.Refusals.{numberless}
+use Rattle.verifier.proofs.Refusals.{numberless, last_rule, earlier_17}
 
 pub closed_none : (f : List ℕ) → ClosedTo f 0 (blanks f)
 closed_none f = record { long = blanks_length f; closed = λ k l. absurd (omega arith); others = λ p _. blanks_blank f p }
@@ -76,5 +78,11 @@ module _ (f : List ℕ) (g : Accepted f) where
 
   -- a complete sheet
   module _ (s : List ℕ) (c : Complete f s) where
+    pub complete_numberless : first (method_breaks f s) (upto (methods f)) ≡ numberless f
+    complete_numberless = first_same (method_breaks f s) (unnumberable f) (upto (methods f)) (λ k i. closed_unnumberable k s (upto_in (methods f) k i) (c.closed k (upto_in (methods f) k i)))
+
     pub complete_numbering : numberless f ≡ None → s ≡ numbering f
     complete_numbering e = complete_same f g s (numbering f) c (numbering_complete f g) (none_below (unnumberable f) (methods f) e)
+
+    pub complete_check : (n m : ℕ) → EarlierPass f n m → check_refusal f n m ≡ last_rule f (first (method_breaks f s) (upto (methods f)))
+    complete_check n m p = earlier_17 f n m p ∙ ap (last_rule f) (sym complete_numberless)

@@ -2,7 +2,7 @@
 use Rattle.std.proofs.Common.{◌≡◌, ℕ, ◌<◌, ◌≤◌, Bool, true, false, ◌&&◌, eqb, ◌⊎◌, List, [], ◌∷◌, ◌++◌, length, set, fold, count_by, sym, refl, ap, ◌∙◌, subst, inl, inr, arith, length-append, length-set}
 use mathlib.Core.List.Memᴰ
 use Rattle.std.proofs.lemmas.List.Sums.{count_by-le-length}
-use Rattle.std.proofs.lemmas.Bool.{both_ways, eqb-true, eq-eqb, cases_eq, and_parts, and_from, cond_both}
+use Rattle.std.proofs.lemmas.Bool.{both_ways, eqb-true, eq-eqb, ne_eqb, cases_eq, and_parts, and_from, and_left, and_right, cond-true, cond-false, cond_both}
 use Rattle.format.specs.Layout.{methods, code_address}
 use Rattle.format.specs.Parts.{Accepted}
 use Rattle.format.proofs.Finds.{In}
@@ -29,6 +29,16 @@ pend_ind P f k d w q h step =
     cond_both (is_place f k q && eqb (number w.sheet q) blank) (work (set w.sheet q d) (w.pending ++ (pending q d ∷ []))) w P
     (λ e. let r = and_parts (is_place f k q) (eqb (number w.sheet q) blank) e in step (is_place_in f k q r.0) (eqb-true (number w.sheet q) blank r.1))
     (λ _. h)
+
+-- the three ways of a gift
+pub pend_new : (f : List ℕ) (k d : ℕ) (w : Work) (q : ℕ) → is_place f k q ≡ true → number w.sheet q ≡ blank → pend f k d w q ≡ work (set w.sheet q d) (w.pending ++ (pending q d ∷ []))
+pend_new f k d w q a b = cond-true (is_place f k q && eqb (number w.sheet q) blank) (work (set w.sheet q d) (w.pending ++ (pending q d ∷ []))) w (and_from (is_place f k q) (eqb (number w.sheet q) blank) a (eq-eqb (number w.sheet q) blank b))
+
+pub pend_astray : (f : List ℕ) (k d : ℕ) (w : Work) (q : ℕ) → is_place f k q ≡ false → pend f k d w q ≡ w
+pend_astray f k d w q a = cond-false (is_place f k q && eqb (number w.sheet q) blank) (work (set w.sheet q d) (w.pending ++ (pending q d ∷ []))) w (and_left (is_place f k q) (eqb (number w.sheet q) blank) a)
+
+pub pend_old : (f : List ℕ) (k d : ℕ) (w : Work) (q : ℕ) → (number w.sheet q ≡ blank → ⊥) → pend f k d w q ≡ w
+pend_old f k d w q b = cond-false (is_place f k q && eqb (number w.sheet q) blank) (work (set w.sheet q d) (w.pending ++ (pending q d ∷ []))) w (and_right (is_place f k q) (eqb (number w.sheet q) blank) (ne_eqb (number w.sheet q) blank b))
 
 module _ (f : List ℕ) (g : Accepted f) (k : ℕ) (l : k < methods f) where
   inside : (s : List ℕ) → length s ≡ length f → (q : ℕ) → In q (places f k) → q < length s
@@ -265,6 +275,9 @@ module _ (f : List ℕ) (g : Accepted f) (k : ℕ) (l : k < methods f) where
 
   pub only_none : (s : List ℕ) → OnlyMethod f k s s
   only_none s = record { long = refl; others = λ _ _. refl }
+
+  pub only_more : (s t u : List ℕ) → OnlyMethod f k s t → OnlyMethod f k t u → OnlyMethod f k s u
+  only_more s t u a b = record { long = b.long ∙ a.long; others = λ p no. b.others p no ∙ a.others p no }
 
   pub only_start : (s : List ℕ) → OnlyMethod f k s (set s (code_address f k) 0)
   only_start s = only_set s s (code_address f k) 0 (start_is_place f g k l) (only_none s)
