@@ -17,8 +17,8 @@ fn digit_of(number: u8) -> char
     digit.to_ascii_uppercase()
 }
 
-/// Adds the two digits of a byte. They are pushed one by one: `write!` by the library's `{:02X}` takes three times as long
-/// (docs/DECISIONS.md).
+/// Adds the two digits of a byte. They are pushed one by one: `write!` by the library's `{:02X}` takes nearly four times as many of the
+/// processor's instructions (docs/DECISIONS.md).
 pub fn push_byte(text: &mut String, byte: u8) -> Result<(), AllocError>
     ensures { OnOk result (string_bytes text.new ≡ string_bytes text.old ++ byte_digits byte) }
 {
